@@ -1,0 +1,5 @@
+mod Answers
+mod Cuts
+pub mod Digits
+mod Fields
+pub mod Inverse
