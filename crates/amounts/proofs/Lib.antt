@@ -1,0 +1,4 @@
+pub mod Integers
+pub mod JoinedRows
+pub mod RowLaws
+pub mod Singles
