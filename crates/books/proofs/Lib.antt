@@ -1,0 +1,4 @@
+mod Formulas
+mod FormulaLaws
+mod ChargeLaws
+mod JoinLaws

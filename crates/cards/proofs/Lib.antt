@@ -1,0 +1,2 @@
+mod Legs
+mod Laws
