@@ -1,0 +1,13 @@
+use native.Mathlib.Omega.{arith}
+use Rattle.std.proofs.shelf.Ways.{tells}
+use Rattle.std.proofs.shelf.Lists.{getD-default}
+use Rattle.optimum.specs.Rotation.{latest}
+use Rattle.solver.proofs.reach.closing.Needs as need
+
+pub returns-then-stop-legs : need.returns-then-stop-legs
+unfolding latest
+returns-then-stop-legs c = grind (arith, tells)
+
+pub returns-else-stop-legs : need.returns-else-stop-legs
+unfolding latest
+returns-else-stop-legs c = grind (arith, tells, getD-default)
