@@ -1,0 +1,3 @@
+mod Trials
+mod Sums
+mod Rotations
