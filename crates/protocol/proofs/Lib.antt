@@ -1,0 +1,2 @@
+mod Conversing
+mod Showing

@@ -1,0 +1,5 @@
+pub mod Faults
+pub mod Requests
+pub mod Stages
+pub mod Desks
+pub mod Conversation
