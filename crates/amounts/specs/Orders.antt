@@ -18,12 +18,12 @@ pub record Order (n : ℕ) (le : Row → Row → Type 0) : Type 0 where
   pub placed : (x y x' y' : Row) → Same n x x' → Same n y y' → le x y → le x' y'
 
 -- one place, in the order of numbers
-abbrev pub by_number : Row → Row → Type 0
-by_number x y = x 0 ≤ℤ y 0
+abbrev pub ByNumber : Row → Row → Type 0
+ByNumber x y = x 0 ≤ℤ y 0
 
 -- rows joined of m places and others: the first part decides, and the second decides between equals
-abbrev pub ranked : ℕ → (Row → Row → Type 0) → (Row → Row → Type 0) → Row → Row → Type 0
-ranked m first second x y = first x y × (first y x → second (rest m x) (rest m y))
+abbrev pub ByRank : ℕ → (Row → Row → Type 0) → (Row → Row → Type 0) → Row → Row → Type 0
+ByRank m first second x y = first x y × (first y x → second (rest m x) (rest m y))
 
 -- a test that answers whether P holds
 abbrev pub Tells : Bool → Type 0 → Type 0

@@ -23,15 +23,15 @@ unfolding plus minus
 plus-minus x y = fun_ext (λ k. omega (arith, ints))
 
 -- taking away is adding what is taken away from nothing
-pub minus-is-plus : (x y : Row) → minus x y ≡ plus x (minus none y)
+pub minus_is_plus : (x y : Row) → minus x y ≡ plus x (minus none y)
 unfolding plus minus none
-minus-is-plus x y = fun_ext (λ k. omega (arith, ints))
+minus_is_plus x y = fun_ext (λ k. omega (arith, ints))
 
 -- ---- multiples
 
-pub times-sum : (s t : ℤ) (p : Row) → times (s +ℤ t) p ≡ plus (times s p) (times t p)
+pub times_sum : (s t : ℤ) (p : Row) → times (s +ℤ t) p ≡ plus (times s p) (times t p)
 unfolding times plus
-times-sum s t p = fun_ext (λ k. int.sum-times s t (p k))
+times_sum s t p = fun_ext (λ k. int.sum_times s t (p k))
 
 -- ---- orders
 
@@ -39,16 +39,16 @@ module _ {n : ℕ} {le : Row → Row → Type 0} (o : Order n le) where
   pub le_refl : (x : Row) → le x x
   le_refl x = elim (o.total x x) [ inl h ↦ h | inr h ↦ h ]
 
-  pub added-left : (x y z : Row) → le x y → le (plus z x) (plus z y)
-  added-left x y z h = rw (plus_comm z x, plus_comm z y) (o.added x y z h)
+  pub added_left : (x y z : Row) → le x y → le (plus z x) (plus z y)
+  added_left x y z h = rw (plus_comm z x, plus_comm z y) (o.added x y z h)
 
   -- two comparisons added up
-  pub added-both : (x y z w : Row) → le x y → le z w → le (plus x z) (plus y w)
-  added-both x y z w p q = o.transitive _ _ _ (o.added x y z p) (added-left z w y q)
+  pub added_both : (x y z w : Row) → le x y → le z w → le (plus x z) (plus y w)
+  added_both x y z w p q = o.transitive _ _ _ (o.added x y z p) (added_left z w y q)
 
   -- one row taken from both sides
   pub cancelled : (x y z : Row) → le (plus x z) (plus y z) → le x y
   cancelled x y z h =
       let moved = o.added (plus x z) (plus y z) (minus none z) h in
-      let back : (w : Row) → plus (plus w z) (minus none z) ≡ w = λ w. sym (minus-is-plus (plus w z) z) ∙ plus-minus w z in
+      let back : (w : Row) → plus (plus w z) (minus none z) ≡ w = λ w. sym (minus_is_plus (plus w z) z) ∙ plus-minus w z in
       rw (back x, back y) at moved

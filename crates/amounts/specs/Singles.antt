@@ -4,15 +4,15 @@ use Rattle.std.proofs.Math.Path.{fun_ext}
 use Rattle.std.proofs.Common.{inl, inr, arith}
 use Rattle.std.proofs.lemmas.Int.{ints, clamps, by_lt_z}
 use Rattle.amounts.specs.Rows.{Row, none, plus, minus, single, Within, InRange, Ends, nearest}
-use Rattle.amounts.specs.Orders.{Order, by_number, Tells}
+use Rattle.amounts.specs.Orders.{Order, ByNumber, Tells}
 
-pub single-first : (v : ℤ) → single v 0 ≡ v
+pub single_first : (v : ℤ) → single v 0 ≡ v
 unfolding single
-single-first v = refl
+single_first v = refl
 
-pub single-zero : single (pos 0) ≡ none
+pub single_zero : single (pos 0) ≡ none
 unfolding single none
-single-zero = fun_ext (λ k. elim (nat_lt k 1) as (λ b. cond b (pos 0) (pos 0) ≡ pos 0) [ true ↦ refl | false ↦ refl ])
+single_zero = fun_ext (λ k. elim (nat_lt k 1) as (λ b. cond b (pos 0) (pos 0) ≡ pos 0) [ true ↦ refl | false ↦ refl ])
 
 pub plus-single : (a b : ℤ) → plus (single a) (single b) ≡ single (a +ℤ b)
 unfolding single plus
@@ -25,25 +25,25 @@ minus-single a b =
     fun_ext (λ k. elim (nat_lt k 1) as (λ t. cond t a (pos 0) -ℤ cond t b (pos 0) ≡ cond t (a -ℤ b) (pos 0)) [ true ↦ refl | false ↦ refl ])
 
 -- a number in the range is read as itself
-pub nearest-same : (v : ℤ) → neg_ℤ (pos (2 ^ 47)) ≤ℤ v → v ≤ℤ pos (2 ^ 47) → nearest v ≡ v
-nearest-same v low high = omega (arith, ints, clamps)
+pub nearest_same : (v : ℤ) → neg_ℤ (pos (2 ^ 47)) ≤ℤ v → v ≤ℤ pos (2 ^ 47) → nearest v ≡ v
+nearest_same v low high = omega (arith, ints, clamps)
 
 pub single-within : (limit : ℕ) (v : ℤ) → neg_ℤ (pos limit) ≤ℤ v → v ≤ℤ pos limit → Within limit 1 (single v)
-single-within limit v low high k h = let e : k ≡ 0 = omega arith in rw (e, single-first) (low, high)
+single-within limit v low high k h = let e : k ≡ 0 = omega arith in rw (e, single_first) (low, high)
 
-pub nearest-in-range : (v : ℤ) → InRange 1 (single (nearest v))
-nearest-in-range v = single-within (2 ^ 47) (nearest v) (omega (arith, ints, clamps)) (omega (arith, ints, clamps))
+pub nearest_in_range : (v : ℤ) → InRange 1 (single (nearest v))
+nearest_in_range v = single-within (2 ^ 47) (nearest v) (omega (arith, ints, clamps)) (omega (arith, ints, clamps))
 
-pub single-ends : (v : ℤ) → Ends 1 (single v)
+pub single_ends : (v : ℤ) → Ends 1 (single v)
 unfolding single
-single-ends v k h = grind (arith, ints)
+single_ends v k h = grind (arith, ints)
 
-added : (x y z : Row) → by_number x y → by_number (plus x z) (plus y z)
+added : (x y z : Row) → ByNumber x y → ByNumber (plus x z) (plus y z)
 unfolding plus
 added x y z h = omega (arith, ints)
 
-pub by-number-order : Order 1 by_number
-by-number-order =
+pub by_number_order : Order 1 ByNumber
+by_number_order =
     record {
       total = λ x y. by_lt_z (x 0) (y 0) (λ h. inl (omega (arith, ints))) (λ h. inr h);
       transitive = λ x y z p q. omega (arith, ints);
@@ -54,9 +54,9 @@ by-number-order =
     }
 
 -- the test of the order answers it
-tells-from : (b : Bool) (P : Type 0) → (b ≡ true → P) → (b ≡ false → P → ⊥) → Tells b P
-tells-from true P held failed = held refl
-tells-from false P held failed = failed refl
+tells_from : (b : Bool) (P : Type 0) → (b ≡ true → P) → (b ≡ false → P → ⊥) → Tells b P
+tells_from true P held failed = held refl
+tells_from false P held failed = failed refl
 
-pub tells-number : (x y : ℤ) (a b : Row) → x ≡ a 0 → y ≡ b 0 → Tells (int_le x y) (by_number a b)
-tells-number x y a b p q = tells-from (int_le x y) _ (λ e. omega (arith, ints)) (λ e h. omega (arith, ints))
+pub tells_number : (x y : ℤ) (a b : Row) → x ≡ a 0 → y ≡ b 0 → Tells (int_le x y) (ByNumber a b)
+tells_number x y a b p q = tells_from (int_le x y) _ (λ e. omega (arith, ints)) (λ e h. omega (arith, ints))

@@ -1,8 +1,8 @@
 // Kilograms, a kind of amount with one place, in the order of numbers.
 ghost use Rattle.std.specs.Prelude.{◌≡◌};
 ghost use Rattle.amounts.specs.Rows.{single, nearest};
-ghost use Rattle.amounts.specs.Orders.{by_number};
-ghost use Rattle.amounts.specs.Singles.{by-number-order, nearest-in-range, single-ends};
+ghost use Rattle.amounts.specs.Orders.{ByNumber};
+ghost use Rattle.amounts.specs.Singles.{by_number_order, nearest_in_range, single_ends};
 
 use crate::Amount;
 use crate::single::{difference, no_more, nothing, read, sum};
@@ -34,13 +34,13 @@ impl Amount for Kilograms {
 
     ghost row = { λ a. single (nearest a.value) };
 
-    ghost le = { by_number };
+    ghost le = { ByNumber };
 
-    ghost order = { by-number-order };
+    ghost order = { by_number_order };
 
-    ghost ranged = { λ a. nearest-in-range a.value };
+    ghost ranged = { λ a. nearest_in_range a.value };
 
-    ghost ended = { λ a. single-ends _ };
+    ghost ended = { λ a. single_ends _ };
 
     fn zero() -> Self {
         Kilograms { value: nothing() }

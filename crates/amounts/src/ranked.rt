@@ -1,8 +1,8 @@
 // Ranked amounts: any kind and then any other kind.
 ghost use Rattle.std.specs.Prelude.{◌+◌};
 ghost use Rattle.amounts.specs.Rows.{joined};
-ghost use Rattle.amounts.specs.Orders.{ranked};
-ghost use Rattle.amounts.specs.JoinedRows.{ranked-order, joined-within, joined-ends};
+ghost use Rattle.amounts.specs.Orders.{ByRank};
+ghost use Rattle.amounts.specs.JoinedRows.{ranked_order, joined-within, joined_ends};
 
 use crate::Amount;
 
@@ -18,13 +18,13 @@ impl<A: Amount, B: Amount> Amount for Ranked<A, B> {
 
     ghost row = { λ a. joined A.Amount.places (A.Amount.row a.first) (B.Amount.row a.second) };
 
-    ghost le = { ranked A.Amount.places A.Amount.le B.Amount.le };
+    ghost le = { ByRank A.Amount.places A.Amount.le B.Amount.le };
 
-    ghost order = { ranked-order A.Amount.order B.Amount.order };
+    ghost order = { ranked_order A.Amount.order B.Amount.order };
 
     ghost ranged = { λ a. joined-within _ _ _ _ _ (A.Amount.ranged a.first) (B.Amount.ranged a.second) };
 
-    ghost ended = { λ a. joined-ends _ _ _ _ (B.Amount.ended a.second) };
+    ghost ended = { λ a. joined_ends _ _ _ _ (B.Amount.ended a.second) };
 
     fn zero() -> Self {
         Ranked {

@@ -1,7 +1,7 @@
 // The arithmetic on one number in the range of amounts, which the kinds with one place share.
 ghost use Rattle.std.specs.Prelude.{◌≡◌};
 ghost use Rattle.amounts.specs.Rows.{none, single, plus, minus, nearest, Exactly};
-ghost use Rattle.amounts.specs.Orders.{by_number, Tells};
+ghost use Rattle.amounts.specs.Orders.{ByNumber, Tells};
 
 // The greatest number in a place of an amount, 2^47; the least is its negative.
 const LIMIT: i64 = 0x8000_0000_0000;
@@ -46,7 +46,7 @@ pub(crate) fn difference(a: i64, b: i64) -> Option<i64>
 
 // Whether the first number is at most the second, both as read.
 pub(crate) fn no_more(a: i64, b: i64) -> bool
-    ensures { Tells result (by_number (single (nearest a)) (single (nearest b))) }
+    ensures { Tells result (ByNumber (single (nearest a)) (single (nearest b))) }
 {
     read(a) <= read(b)
 }

@@ -49,9 +49,9 @@ module _ (bs : List ℕ) (typed : (k : ℕ) → Fits w8 (get_or bs k 0)) where
   pub headed : (k b : ℕ) → 2 ≤ length bs → get_or bs 0 0 ≡ k → get_or bs 1 0 ≡ b → bs ≡ k ∷ b ∷ drop 2 bs
   headed k b room kind is = byte_at 0 1 k (omega arith) refl kind (byte_at 1 2 b room refl is refl)
 
-  pub refusal-at : (k a b c n : ℕ) → length bs ≡ 6 → get_or bs 0 0 ≡ k → get_or bs 1 0 ≡ a → get_or bs 2 0 ≡ b → get_or bs 3 0 ≡ c →
+  pub refusal_at : (k a b c n : ℕ) → length bs ≡ 6 → get_or bs 0 0 ≡ k → get_or bs 1 0 ≡ a → get_or bs 2 0 ≡ b → get_or bs 3 0 ≡ c →
       n ≡ get_or bs 4 0 * 256 + get_or bs 5 0 → bs ≡ k ∷ a ∷ b ∷ c ∷ word n []
-  refusal-at k a b c n size kind is-a is_b is_c is-n =
+  refusal_at k a b c n size kind is-a is_b is_c is-n =
       byte_at 0 1 k (omega arith) refl kind
       (byte_at 1 2 a (omega arith) refl is-a
       (byte_at 2 3 b (omega arith) refl is_b

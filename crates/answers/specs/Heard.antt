@@ -1,7 +1,7 @@
 -- What a line that was read says.
 -- Assumes nothing.
 use Rattle.std.specs.Prelude.{◌≡◌, ℕ, List, take, drop, Option, MatchOption, ◌≢◌}
-use Rattle.answers.specs.Spelling.{Reply, done, timing, refused, answerBytes, Fits, Spells}
+use Rattle.answers.specs.Spelling.{Reply, done, timing, refused, answer_bytes, Fits, Spells}
 use Rattle.answers.specs.declared.kinds.Reading.{Reading}
 use Rattle.answers.specs.declared.kinds.Reading.TheVariants.{Done, Timing, Refused}
 
@@ -27,8 +27,8 @@ Reads line before r after =
 -- minutes; or they are no answer's, and the place is as it was
 abbrev pub Decodes : List ℕ → List ℕ → Option Reading → List ℕ → Type 0
 Decodes bytes before r after =
-    MatchOption r ((after ≡ before) × ((reply : Reply) → Fits reply → bytes ≢ answerBytes reply))
-    (λ reading. (bytes ≡ answerBytes (heard reading after)) × Fits (heard reading after) × (drop (filled reading) after ≡ drop (filled reading) before))
+    MatchOption r ((after ≡ before) × ((reply : Reply) → Fits reply → bytes ≢ answer_bytes reply))
+    (λ reading. (bytes ≡ answer_bytes (heard reading after)) × Fits (heard reading after) × (drop (filled reading) after ≡ drop (filled reading) before))
 
 -- the line is read as this answer
 abbrev pub ReadAs : Option Reading → List ℕ → Reply → Type 0

@@ -27,14 +27,14 @@ words [] rest = rest
 words (n ∷ ns) rest = word n (words ns rest)
 
 -- the bytes of an answer: its kind, and then what it tells
-abbrev pub answerBytes : Reply → List ℕ
-answerBytes done = 0x80 ∷ []
-answerBytes (timing minutes kilograms cents) = 0x81 ∷ length minutes ∷ words minutes (wide kilograms (wide cents []))
-answerBytes (refused refusal line) = 0xEE ∷ refusal.number ∷ code refusal.layer ∷ refusal.leg ∷ word line []
+abbrev pub answer_bytes : Reply → List ℕ
+answer_bytes done = 0x80 ∷ []
+answer_bytes (timing minutes kilograms cents) = 0x81 ∷ length minutes ∷ words minutes (wide kilograms (wide cents []))
+answer_bytes (refused refusal line) = 0xEE ∷ refusal.number ∷ code refusal.layer ∷ refusal.leg ∷ word line []
 
 -- the line that spells an answer
 abbrev pub spelled : Reply → List ℕ
-spelled reply = hexed (answerBytes reply)
+spelled reply = hexed (answer_bytes reply)
 
 -- numbers that fit their fields: minutes and lines two bytes, legs and numbers one, amounts eight with their sign; and 64 legs at most
 abbrev pub Fits : Reply → Type 0

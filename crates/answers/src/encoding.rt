@@ -1,7 +1,7 @@
 // Writing an answer as a line.
 ghost use Rattle.std.specs.Prelude.{◌≡◌, ◌+◌, ◌<◌, ◌≤◌, true, [], ◌∷◌, ◌++◌, length, take, drop, is_ok, if◌then◌else◌, vec_len, vec_capacity};
 ghost use Rattle.answers.specs.Meaning.{meant};
-ghost use Rattle.answers.specs.Spelling.{Reply, timing, answerBytes, spelled, Fits, Spells};
+ghost use Rattle.answers.specs.Spelling.{Reply, timing, answer_bytes, spelled, Fits, Spells};
 
 use crate::kinds::Answer;
 use hex::write_hex;
@@ -23,7 +23,7 @@ fn put(place: &mut [u8; 146], at: usize, bytes: &[u8]) -> usize
 // Puts the bytes of a timing at the start of a place, and tells how many there are; the others stay.
 fn put_timing(place: &mut [u8; 146], minutes: &[u16], kilograms: i64, cents: i64) -> usize
     ensures count { result ≤ 146 }
-    ensures bytes { take result place.new ≡ answerBytes (timing (take 64 minutes.now) kilograms cents) }
+    ensures bytes { take result place.new ≡ answer_bytes (timing (take 64 minutes.now) kilograms cents) }
     ensures rest { drop result place.new ≡ drop result place.old }
     ensures fits { Fits (timing (take 64 minutes.now) kilograms cents) }
 {
@@ -42,7 +42,7 @@ impl Answer<'_> {
     // stay.
     fn encode(self, place: &mut [u8; 146]) -> usize
         ensures count { result ≤ 146 }
-        ensures bytes { take result place.new ≡ answerBytes (meant self.entry) }
+        ensures bytes { take result place.new ≡ answer_bytes (meant self.entry) }
         ensures rest { drop result place.new ≡ drop result place.old }
         ensures fits { Fits (meant self.entry) }
     {

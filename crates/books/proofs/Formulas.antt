@@ -6,7 +6,7 @@ use Rattle.std.proofs.lemmas.Bool.{cases_lt, cases_eq}
 use Rattle.amounts.specs.Rows.{single}
 use Rattle.board.specs.Rules.{Clear}
 use Rattle.books.specs.Meaning.{IsLeg}
-use Rattle.books.specs.Boards.{leg-rules}
+use Rattle.books.specs.Boards.{leg_rules}
 use Rattle.books.specs.Formula.{kilograms, Timed, Weighed, blank, at, formulas, Appended}
 use Rattle.books.specs.declared.formula.FormulaLeg.{FormulaLeg}
 
@@ -27,30 +27,30 @@ squared m t =
       | inr above ↦ let e : pos m -ℤ pos t ≡ pos (apart m t) = omega (arith, ints) in rw e refl
     ]
 
-pub product-below : (a b : ℕ) → a < 2 ^ 16 → b < 2 ^ 32 → a * b < 2 ^ 48
-product-below a b p q =
+pub product_below : (a b : ℕ) → a < 2 ^ 16 → b < 2 ^ 32 → a * b < 2 ^ 48
+product_below a b p q =
     let p' : a ≤ 65535 = omega arith in
     let q' : b ≤ 4294967295 = omega arith in
     let h : a * b ≤ 65535 * 4294967295 = mul-le-mul p' q' in
     omega arith
 
-pub kilograms-is : (leg : FormulaLeg) (m a b : ℕ) → a ≡ leg.q → pos b ≡ (pos m -ℤ pos leg.t) *ℤ (pos m -ℤ pos leg.t) → pos (a * b) +ℤ leg.r ≡ kilograms leg m
+pub kilograms_is : (leg : FormulaLeg) (m a b : ℕ) → a ≡ leg.q → pos b ≡ (pos m -ℤ pos leg.t) *ℤ (pos m -ℤ pos leg.t) → pos (a * b) +ℤ leg.r ≡ kilograms leg m
 unfolding kilograms
-kilograms-is leg m a b p q = rw (p, ← q)
+kilograms_is leg m a b p q = rw (p, ← q)
 
 -- ---- a leg that may be added is a lawful one
 
 module _ (n : ℕ) (leg : FormulaLeg) where
-  pub timed : Clear (leg-rules n leg) → Timed leg
+  pub timed : Clear (leg_rules n leg) → Timed leg
   timed clear = grind (arith, clear.1.0)
 
-  pub weighed : leg.q ≤ 65535 → Clear (leg-rules n leg) → Weighed leg
+  pub weighed : leg.q ≤ 65535 → Clear (leg_rules n leg) → Weighed leg
   weighed light clear = (light, grind (arith, ints, clear.1.1.0), grind (arith, ints, clear.1.1.0))
 
 -- ---- lists of legs
 
-pub all-blank : (P : FormulaLeg → Type 0) → P blank → (k : ℕ) → P (get_or (replicate 64 blank) k blank)
-all-blank P h k =
+pub all_blank : (P : FormulaLeg → Type 0) → P blank → (k : ℕ) → P (get_or (replicate 64 blank) k blank)
+all_blank P h k =
     let e : get_or (replicate 64 blank) k blank ≡ blank = blank-at k in
     subst P (sym e) h
   where
@@ -72,12 +72,12 @@ pub appended : (legs : List FormulaLeg) (n : ℕ) (leg : FormulaLeg) → n < len
 appended legs n leg h =
     record {
       more = refl;
-      lo-of-it = ap (λ (l : FormulaLeg). l.lo) new;
-      hi-of-it = ap (λ (l : FormulaLeg). l.hi) new;
-      cost-of-it = λ m. ap (λ (l : FormulaLeg). single (kilograms l m)) new;
-      lo-kept = λ i p. ap (λ (l : FormulaLeg). l.lo) (old i p);
-      hi-kept = λ i p. ap (λ (l : FormulaLeg). l.hi) (old i p);
-      cost-kept = λ i m p. ap (λ (l : FormulaLeg). single (kilograms l m)) (old i p);
+      lo_of_it = ap (λ (l : FormulaLeg). l.lo) new;
+      hi_of_it = ap (λ (l : FormulaLeg). l.hi) new;
+      cost_of_it = λ m. ap (λ (l : FormulaLeg). single (kilograms l m)) new;
+      lo_kept = λ i p. ap (λ (l : FormulaLeg). l.lo) (old i p);
+      hi_kept = λ i p. ap (λ (l : FormulaLeg). l.hi) (old i p);
+      cost_kept = λ i m p. ap (λ (l : FormulaLeg). single (kilograms l m)) (old i p);
     }
   where
     new : at (set legs n leg) (n + 1) ≡ leg

@@ -6,13 +6,13 @@ use Rattle.books.specs.Faults.{row}
 use Rattle.books.specs.declared.formula.FormulaLeg.{FormulaLeg}
 
 -- adding a leg to a formula book of n legs: too many legs; ends out of order, or an end or t too late; r out of range
-abbrev pub leg-rules : ℕ → FormulaLeg → List Rule
-leg-rules n leg =
+abbrev pub leg_rules : ℕ → FormulaLeg → List Rule
+leg_rules n leg =
     whole (64 ≤ n) (row 5 65)
     ∷ whole ((leg.hi < leg.lo) ⊎ (4095 < leg.hi) ⊎ (4095 < leg.t)) (row 6 (n + 1))
     ∷ whole ((leg.r <ℤ neg_ℤ (pos (2 ^ 29))) ⊎ (pos (2 ^ 29) <ℤ leg.r)) (row 7 (n + 1))
     ∷ []
 
 -- setting the rate of a leg: legs are numbered from 1 to 64
-abbrev pub rate-rules : ℕ → List Rule
-rate-rules leg = whole ((leg ≡ 0) ⊎ (64 < leg)) (row 11 leg) ∷ []
+abbrev pub rate_rules : ℕ → List Rule
+rate_rules leg = whole ((leg ≡ 0) ⊎ (64 < leg)) (row 11 leg) ∷ []

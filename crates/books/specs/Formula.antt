@@ -33,9 +33,9 @@ formulas legs n =
 -- the new book is the old one with one leg more, and every other leg as before
 pub record Appended (old : Meaning) (leg : FormulaLeg) (new : Meaning) : Type 0 where
   pub more : new.legs ≡ old.legs + 1
-  pub lo-of-it : new.lo (old.legs + 1) ≡ leg.lo
-  pub hi-of-it : new.hi (old.legs + 1) ≡ leg.hi
-  pub cost-of-it : (m : ℕ) → new.cost (old.legs + 1) m ≡ single (kilograms leg m)
-  pub lo-kept : (i : ℕ) → IsLeg old i → new.lo i ≡ old.lo i
-  pub hi-kept : (i : ℕ) → IsLeg old i → new.hi i ≡ old.hi i
-  pub cost-kept : (i m : ℕ) → IsLeg old i → new.cost i m ≡ old.cost i m
+  pub lo_of_it : new.lo (old.legs + 1) ≡ leg.lo
+  pub hi_of_it : new.hi (old.legs + 1) ≡ leg.hi
+  pub cost_of_it : (m : ℕ) → new.cost (old.legs + 1) m ≡ single (kilograms leg m)
+  pub lo_kept : (i : ℕ) → IsLeg old i → new.lo i ≡ old.lo i
+  pub hi_kept : (i : ℕ) → IsLeg old i → new.hi i ≡ old.hi i
+  pub cost_kept : (i m : ℕ) → IsLeg old i → new.cost i m ≡ old.cost i m

@@ -4,7 +4,7 @@ ghost use Rattle.std.specs.Option as options;
 ghost use Rattle.books.specs.Meaning.{IsLeg};
 ghost use Rattle.board.specs.Rules.{Clear, Broken};
 ghost use Rattle.books.specs.Faults.{told};
-ghost use Rattle.books.specs.Boards.{leg-rules};
+ghost use Rattle.books.specs.Boards.{leg_rules};
 ghost use Rattle.books.specs.Formula.{kilograms, Timed, Weighed, blank, at, formulas, Appended};
 
 use crate::{Book, BookFault, Ends, LAST_MINUTE, MOST_LEGS};
@@ -71,7 +71,7 @@ impl FormulaBook {
 
     // Whether a leg may be added, by the rows of the board.
     fn check(&self, leg: FormulaLeg) -> Result<(), BookFault>
-        ensures { MatchResult result (λ _. Clear (leg-rules self.now.count leg)) (λ f. Broken (leg-rules self.now.count leg) (told f)) }
+        ensures { MatchResult result (λ _. Clear (leg_rules self.now.count leg)) (λ f. Broken (leg_rules self.now.count leg) (told f)) }
     {
         if self.count >= MOST_LEGS {
             return Err(BookFault::TooManyLegs);
@@ -88,7 +88,7 @@ impl FormulaBook {
 
     // Puts a leg that may be added behind the others.
     fn push(&mut self, leg: FormulaLeg)
-        requires { Clear (leg-rules self.old.count leg) }
+        requires { Clear (leg_rules self.old.count leg) }
         ensures { Appended (formulas self.old.legs self.old.count) leg (formulas self.new.legs self.new.count) }
     {
         self.legs[self.count] = leg;
@@ -97,7 +97,7 @@ impl FormulaBook {
 
     // Adds a leg behind the others, or refuses it and leaves the book as it stood.
     pub fn add_leg(&mut self, leg: FormulaLeg) -> Result<(), BookFault>
-        ensures { MatchResult result (λ _. Clear (leg-rules self.old.count leg) × Appended (formulas self.old.legs self.old.count) leg (formulas self.new.legs self.new.count)) (λ f. Broken (leg-rules self.old.count leg) (told f) × (self.new ≡ self.old)) }
+        ensures { MatchResult result (λ _. Clear (leg_rules self.old.count leg) × Appended (formulas self.old.legs self.old.count) leg (formulas self.new.legs self.new.count)) (λ f. Broken (leg_rules self.old.count leg) (told f) × (self.new ≡ self.old)) }
     {
         self.check(leg)?;
         self.push(leg);

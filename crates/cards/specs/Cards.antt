@@ -17,24 +17,24 @@ abbrev pub offset : List Head → ℕ → ℕ
 offset heads i = sum_by (λ h. h.count) (take (i - 1) heads)
 
 -- the last minute of a leg: a leg of count costs has one for each minute from its first on
-abbrev pub lastMinute : Head → ℕ
-lastMinute h = h.first + h.count - 1
+abbrev pub last_minute_of : Head → ℕ
+last_minute_of h = h.first + h.count - 1
 
 -- the costs of leg i: its own part of the cards
-abbrev pub costsOf : List Head → List ℤ → ℕ → List ℤ
-costsOf heads cards i = take (head heads i).count (drop (offset heads i) cards)
+abbrev pub costs_of : List Head → List ℤ → ℕ → List ℤ
+costs_of heads cards i = take (head heads i).count (drop (offset heads i) cards)
 
 -- the card of m minutes on leg i
-abbrev pub cardAt : List Head → List ℤ → ℕ → ℕ → ℤ
-cardAt heads cards i m = slice_index_or (costsOf heads cards i) (m - (head heads i).first) (pos 0)
+abbrev pub card_at : List Head → List ℤ → ℕ → ℕ → ℤ
+card_at heads cards i m = slice_index_or (costs_of heads cards i) (m - (head heads i).first) (pos 0)
 
 -- the book of these heads and cards: the cost of m minutes on leg i is the card itself
-abbrev pub bookOf : List Head → List ℤ → Meaning
-bookOf heads cards = record {
+abbrev pub book_of : List Head → List ℤ → Meaning
+book_of heads cards = record {
   legs = length heads;
   lo = λ i. (head heads i).first;
-  hi = λ i. lastMinute (head heads i);
-  cost = λ i m. single (cardAt heads cards i m);
+  hi = λ i. last_minute_of (head heads i);
+  cost = λ i m. single (card_at heads cards i m);
 }
 
 -- i is a leg
@@ -43,7 +43,7 @@ Leg heads i = (1 ≤ i) × (i ≤ length heads)
 
 -- leg i has no cost at all, goes past minute 4,095, or lacks cards
 abbrev pub Malformed : List Head → List ℤ → ℕ → Type 0
-Malformed heads cards i = Leg heads i × (((head heads i).count ≡ 0) ⊎ (4095 < lastMinute (head heads i)) ⊎ (length cards < offset heads i + (head heads i).count))
+Malformed heads cards i = Leg heads i × (((head heads i).count ≡ 0) ⊎ (4095 < last_minute_of (head heads i)) ⊎ (length cards < offset heads i + (head heads i).count))
 
 -- there are more cards than the legs count
 abbrev pub LeftOver : List Head → List ℤ → Type 0
@@ -59,7 +59,7 @@ SomeLarge costs = (j : ℕ) × (j < length costs) × Large (slice_index_or costs
 
 -- leg i has a cost that is too large
 abbrev pub TooLarge : List Head → List ℤ → ℕ → Type 0
-TooLarge heads cards i = Leg heads i × SomeLarge (costsOf heads cards i)
+TooLarge heads cards i = Leg heads i × SomeLarge (costs_of heads cards i)
 
 -- three costs in a row begin at place j, and the second of their steps is less than the first
 abbrev pub Drops : List ℤ → ℕ → Type 0
@@ -67,29 +67,29 @@ Drops costs j = (j + 2 < length costs) × ((slice_index_or costs (j + 2) (pos 0)
 
 -- leg i breaks the step law
 abbrev pub Falling : List Head → List ℤ → ℕ → Type 0
-Falling heads cards i = Leg heads i × ((j : ℕ) × Drops (costsOf heads cards i) j)
+Falling heads cards i = Leg heads i × ((j : ℕ) × Drops (costs_of heads cards i) j)
 
 -- the rows on legs and how many cards they have: too many legs, told as leg 65; a malformed leg; cards left over, told as
 -- the leg after the last
-abbrev pub shapeRules : List Head → List ℤ → List Rule
-shapeRules heads cards =
+abbrev pub shape_rules : List Head → List ℤ → List Rule
+shape_rules heads cards =
     whole (64 < length heads) (row 5 65)
     ∷ each (Malformed heads cards) (row 6)
     ∷ whole (LeftOver heads cards) (row 6 (length heads + 1))
     ∷ []
 
 -- the rows on the cards themselves: their range, and the step law
-abbrev pub costRules : List Head → List ℤ → List Rule
-costRules heads cards = each (TooLarge heads cards) (row 7) ∷ each (Falling heads cards) (row 8) ∷ []
+abbrev pub cost_rules : List Head → List ℤ → List Rule
+cost_rules heads cards = each (TooLarge heads cards) (row 7) ∷ each (Falling heads cards) (row 8) ∷ []
 
 -- the board of loading
 abbrev pub board : List Head → List ℤ → List Rule
-board heads cards = shapeRules heads cards ++ costRules heads cards
+board heads cards = shape_rules heads cards ++ cost_rules heads cards
 
 -- minute m of leg i is the lowest that is the middle one of three whose steps fall
 abbrev pub LowestMiddle : List Head → List ℤ → ℕ → ℕ → Type 0
 LowestMiddle heads cards i m =
-    (j : ℕ) × Drops (costsOf heads cards i) j × ((k : ℕ) → k < j → Drops (costsOf heads cards i) k → ⊥) × (m ≡ (head heads i).first + j + 1)
+    (j : ℕ) × Drops (costs_of heads cards i) j × ((k : ℕ) → k < j → Drops (costs_of heads cards i) k → ⊥) × (m ≡ (head heads i).first + j + 1)
 
 -- a refusal that tells a minute tells the lowest one of its leg
 abbrev pub TellsLowest : List Head → List ℤ → BookFault → Type 0

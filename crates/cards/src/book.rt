@@ -2,7 +2,7 @@
 ghost use Rattle.std.specs.Prelude.{◌≡◌, [], MatchOption, MatchResult};
 ghost use Rattle.board.specs.Rules.{Clear, Broken};
 ghost use Rattle.books.specs.Faults.{told};
-ghost use Rattle.cards.specs.Cards.{Leg, head, bookOf, TellsLowest, shapeRules, costRules, board};
+ghost use Rattle.cards.specs.Cards.{Leg, head, book_of, TellsLowest, shape_rules, cost_rules, board};
 
 use crate::checks::check;
 use crate::head::{Head, leg_costs};
@@ -15,8 +15,8 @@ use books::{Book, BookFault, Ends};
 pub struct CardBook<'a> {
     heads: &'a [Head],
     cards: &'a [i64],
-    ghost shaped: { Clear (shapeRules heads.now cards.now) },
-    ghost lawful: { Clear (costRules heads.now cards.now) },
+    ghost shaped: { Clear (shape_rules heads.now cards.now) },
+    ghost lawful: { Clear (cost_rules heads.now cards.now) },
 }
 
 impl CardBook<'_> {
@@ -56,7 +56,7 @@ pub fn load<'a>(
 impl Book for CardBook<'_> {
     type Cost = Kilograms;
 
-    ghost meaning = { λ b. bookOf b.heads.now b.cards.now };
+    ghost meaning = { λ b. book_of b.heads.now b.cards.now };
 
     fn keeps_laws(&self) {}
 

@@ -3,7 +3,7 @@ ghost use Rattle.std.specs.Prelude.{◌≡◌, ℕ, ◌<◌, ◌≤◌, length, 
 ghost use Rattle.amounts.specs.Orders.{Tells};
 ghost use Rattle.board.specs.Rules.{each, Holds, Breaks, Clear, Broken};
 ghost use Rattle.books.specs.Faults.{row, told, middle};
-ghost use Rattle.cards.specs.Cards.{Leg, Malformed, SomeLarge, Drops, TooLarge, Falling, TellsLowest, shapeRules, board};
+ghost use Rattle.cards.specs.Cards.{Leg, Malformed, SomeLarge, Drops, TooLarge, Falling, TellsLowest, shape_rules, board};
 
 use crate::head::{Head, cards_before, leg_costs};
 use books::{BookFault, LAST_MINUTE, MOST_LEGS};
@@ -26,7 +26,7 @@ fn is_malformed(heads: &[Head], cards: &[i64], leg: usize) -> bool
 
 // Rows 5 and 6: how many legs there are, whether each is well formed, and whether cards are left over.
 fn check_shape(heads: &[Head], cards: &[i64]) -> Result<(), BookFault>
-    ensures { MatchResult result (λ _. Clear (shapeRules heads.now cards.now)) (λ f. Broken (shapeRules heads.now cards.now) (told f) × (middle f ≡ None)) }
+    ensures { MatchResult result (λ _. Clear (shape_rules heads.now cards.now)) (λ f. Broken (shape_rules heads.now cards.now) (told f) × (middle f ≡ None)) }
 {
     if heads.len() > MOST_LEGS {
         return Err(BookFault::TooManyLegs);
@@ -77,7 +77,7 @@ fn first_drop(costs: &[i64]) -> Option<usize>
 
 // Row 7: whether some leg has a cost out of range.
 fn check_range(heads: &[Head], cards: &[i64]) -> Result<(), BookFault>
-    requires { Clear (shapeRules heads.now cards.now) }
+    requires { Clear (shape_rules heads.now cards.now) }
     ensures { MatchResult result (λ _. Holds (each (TooLarge heads.now cards.now) (row 7))) (λ f. Breaks (each (TooLarge heads.now cards.now) (row 7)) (told f) × (middle f ≡ None)) }
 {
     for leg in 1..heads.len() + 1 {
@@ -90,7 +90,7 @@ fn check_range(heads: &[Head], cards: &[i64]) -> Result<(), BookFault>
 
 // Row 8: whether some leg breaks the step law, and at which minute.
 fn check_steps(heads: &[Head], cards: &[i64]) -> Result<(), BookFault>
-    requires { Clear (shapeRules heads.now cards.now) }
+    requires { Clear (shape_rules heads.now cards.now) }
     ensures { MatchResult result (λ _. Holds (each (Falling heads.now cards.now) (row 8))) (λ f. Breaks (each (Falling heads.now cards.now) (row 8)) (told f) × TellsLowest heads.now cards.now f) }
 {
     for leg in 1..heads.len() + 1 {

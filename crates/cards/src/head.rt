@@ -1,7 +1,7 @@
 // The heads of legs, and where the cards of a leg stand.
 ghost use Rattle.std.specs.Prelude.{◌≡◌, ◌+◌, ◌*◌, ◌≤◌, length};
 ghost use Rattle.board.specs.Rules.{Clear};
-ghost use Rattle.cards.specs.Cards.{Leg, lastMinute, offset, costsOf, shapeRules};
+ghost use Rattle.cards.specs.Cards.{Leg, last_minute_of, offset, costs_of, shape_rules};
 
 // A leg's first minute, and how many costs it has: one for each minute from the first on.
 #[derive(Clone, Copy, PartialEq, Eq, Debug)]
@@ -13,7 +13,7 @@ pub struct Head {
 impl Head {
     // The last minute of a leg that has costs.
     pub(crate) fn last_minute(self) -> usize
-        ensures { result ≡ lastMinute self }
+        ensures { result ≡ last_minute_of self }
     {
         (self.first as usize + self.count as usize).saturating_sub(1)
     }
@@ -34,8 +34,8 @@ pub(crate) fn cards_before(heads: &[Head], leg: usize) -> usize
 
 // The costs of a leg: its own part of the cards.
 pub(crate) fn leg_costs<'a>(heads: &[Head], cards: &'a [i64], leg: usize) -> &'a [i64]
-    requires { (Clear (shapeRules heads.now cards.now)) × (Leg heads.now leg) }
-    ensures { result.now ≡ costsOf heads.now cards.now leg }
+    requires { (Clear (shape_rules heads.now cards.now)) × (Leg heads.now leg) }
+    ensures { result.now ≡ costs_of heads.now cards.now leg }
 {
     let start = cards_before(heads, leg);
     let count = heads[leg - 1].count as usize;

@@ -3,7 +3,7 @@ ghost use Rattle.std.specs.Prelude.{◌≡◌, ℕ, ◌*◌, ◌≤◌, pos, Mat
 ghost use Rattle.amounts.specs.Rows.{single, nearest};
 ghost use Rattle.board.specs.Rules.{Clear, Broken};
 ghost use Rattle.books.specs.Faults.{told};
-ghost use Rattle.books.specs.Boards.{leg-rules, rate-rules};
+ghost use Rattle.books.specs.Boards.{leg_rules, rate_rules};
 ghost use Rattle.books.specs.Formula.{formulas, Appended};
 ghost use Rattle.charges.specs.Charges.{charged, RateSet, rate};
 
@@ -27,7 +27,7 @@ impl Rates {
 
     // Sets the rate of one leg, or refuses it and leaves the rates as they stood.
     fn set(&mut self, leg: u8, value: u16) -> Result<(), BookFault>
-        ensures { MatchResult result (λ _. Clear (rate-rules leg) × RateSet self.old.values leg value self.new.values) (λ f. Broken (rate-rules leg) (told f) × (self.new ≡ self.old)) }
+        ensures { MatchResult result (λ _. Clear (rate_rules leg) × RateSet self.old.values leg value self.new.values) (λ f. Broken (rate_rules leg) (told f) × (self.new ≡ self.old)) }
     {
         if leg == 0 || leg as usize > MOST_LEGS {
             return Err(BookFault::NoSuchLeg { leg });
@@ -74,7 +74,7 @@ impl<B: Book> ChargeBook<B> {
 
     // Sets the rate of one leg, or refuses it and leaves the book as it stood.
     pub fn set_rate(&mut self, leg: u8, rate: u16) -> Result<(), BookFault>
-        ensures { MatchResult result (λ _. Clear (rate-rules leg) × (self.new.below ≡ self.old.below) × RateSet self.old.rates.values leg rate self.new.rates.values) (λ f. Broken (rate-rules leg) (told f) × (self.new ≡ self.old)) }
+        ensures { MatchResult result (λ _. Clear (rate_rules leg) × (self.new.below ≡ self.old.below) × RateSet self.old.rates.values leg rate self.new.rates.values) (λ f. Broken (rate_rules leg) (told f) × (self.new ≡ self.old)) }
     {
         self.rates.set(leg, rate)
     }
@@ -84,7 +84,7 @@ impl ChargeBook<FormulaBook> {
     // Adds a leg to the formula book below, or refuses it and leaves the book as it stood; the rates stay.
     pub fn add_leg(&mut self, leg: FormulaLeg) -> Result<(), BookFault>
         ensures rates { self.new.rates ≡ self.old.rates }
-        ensures legs { MatchResult result (λ _. Clear (leg-rules self.old.below.count leg) × Appended (formulas self.old.below.legs self.old.below.count) leg (formulas self.new.below.legs self.new.below.count)) (λ f. Broken (leg-rules self.old.below.count leg) (told f) × (self.new ≡ self.old)) }
+        ensures legs { MatchResult result (λ _. Clear (leg_rules self.old.below.count leg) × Appended (formulas self.old.below.legs self.old.below.count) leg (formulas self.new.below.legs self.new.below.count)) (λ f. Broken (leg_rules self.old.below.count leg) (told f) × (self.new ≡ self.old)) }
     {
         self.below.add_leg(leg)
     }

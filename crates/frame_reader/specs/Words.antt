@@ -21,20 +21,20 @@ call_words (AddLeg q t r lo hi) = codes "formula leg with q " ++ (decimal q ++ (
 call_words (SetRate leg rate) = codes "rate of leg " ++ (decimal leg ++ (codes " set to " ++ (decimal rate ++ codes " cents a minute")))
 
 -- a refusal in words
-abbrev pub faultWords : FrameFault → List ℕ
-faultWords Malformed = codes "not a line of 1 to 32 bytes in capital hexadecimal"
-faultWords UnknownKind = codes "no call has this kind"
-faultWords WrongLength = codes "wrong length for its kind"
-faultWords TooLate = codes "a leg or a rate after a call of the sheet"
+abbrev pub words_of_fault : FrameFault → List ℕ
+words_of_fault Malformed = codes "not a line of 1 to 32 bytes in capital hexadecimal"
+words_of_fault UnknownKind = codes "no call has this kind"
+words_of_fault WrongLength = codes "wrong length for its kind"
+words_of_fault TooLate = codes "a leg or a rate after a call of the sheet"
 
 -- the answer to a line in words, with the number of the line and of the refusal
-abbrev pub answerWords : ℕ → Result Call FrameFault → List ℕ
-answerWords number (Ok call) = codes "line " ++ (decimal number ++ (codes ": " ++ call_words call))
-answerWords number (Err fault) = codes "line " ++ (decimal number ++ (codes ": refused (" ++ (decimal (told fault).number ++ (codes "): " ++ faultWords fault))))
+abbrev pub answer_words : ℕ → Result Call FrameFault → List ℕ
+answer_words number (Ok call) = codes "line " ++ (decimal number ++ (codes ": " ++ call_words call))
+answer_words number (Err fault) = codes "line " ++ (decimal number ++ (codes ": refused (" ++ (decimal (told fault).number ++ (codes "): " ++ words_of_fault fault))))
 
 -- what is said of a line: its answer in words
 abbrev pub Says : ℕ → List ℕ → List ℕ → Type 0
-Says number line words = (r : Result Call FrameFault) × Answer line r × (words ≡ answerWords number r)
+Says number line words = (r : Result Call FrameFault) × Answer line r × (words ≡ answer_words number r)
 
 -- what is said of lines, the first of which has this number: of each in turn, and a line feed after it
 abbrev pub Reports : ℕ → List (List ℕ) → List ℕ → Type 0

@@ -1,7 +1,7 @@
 // What the reader says of a line, in words.
 ghost use Rattle.std.specs.Prelude.{◌≡◌, take, IfOk, string_bytes};
 ghost use Rattle.lines.specs.Lines.{lines_of};
-ghost use Rattle.frame_reader.specs.Words.{call_words, faultWords, Reports, Says};
+ghost use Rattle.frame_reader.specs.Words.{call_words, words_of_fault, Reports, Says};
 
 use frames::{Call, FrameFault};
 use lines::{Lines, start_of};
@@ -36,7 +36,7 @@ fn call_words(heap: Global, call: Call) -> Result<String, AllocError>
 
 // A refusal in words.
 fn fault_words(fault: FrameFault) -> &'static str
-    ensures { result.now ≡ faultWords fault }
+    ensures { result.now ≡ words_of_fault fault }
 {
     match fault {
         FrameFault::Malformed => "not a line of 1 to 32 bytes in capital hexadecimal",

@@ -9,11 +9,11 @@ use Rattle.frames.specs.declared.calls.Call.{Call}
 use Rattle.frames.specs.declared.calls.Call.TheVariants.{Open, Bounds, Window, Lift, Total, Close, AddLeg, SetRate}
 use Rattle.frames.specs.declared.faults.FrameFault.{FrameFault}
 use Rattle.frames.specs.declared.faults.FrameFault.TheVariants.{Malformed, UnknownKind, WrongLength, TooLate}
-use Rattle.hex.proofs.Digits.{digits-hexed, length-hexed}
-use Rattle.frames.proofs.Inverse.{same-hexed, same-frame}
+use Rattle.hex.proofs.Digits.{digits_hexed, length-hexed}
+use Rattle.frames.proofs.Inverse.{same_hexed, same_frame}
 
-pub answer-malformed : (line : List ℕ) → (WellFormed 64 line → ⊥) → Answer line (Err Malformed)
-answer-malformed line bad = record { applies = bad; first = first }
+pub answer_malformed : (line : List ℕ) → (WellFormed 64 line → ⊥) → Answer line (Err Malformed)
+answer_malformed line bad = record { applies = bad; first = first }
   where
     first : (g : FrameFault) → (told g).number < 1 → Applies g line → ⊥
     first Malformed lower applies = omega arith
@@ -21,38 +21,38 @@ answer-malformed line bad = record { applies = bad; first = first }
     first WrongLength lower applies = omega arith
     first TooLate lower applies = applies
 
-pub answer-decoded : (line bytes : List ℕ) (r : Result Call FrameFault) →
+pub answer_decoded : (line bytes : List ℕ) (r : Result Call FrameFault) →
     WellFormed 64 line → Hexes line bytes → Decoded bytes r → Answer line r
-answer-decoded line bytes (Ok c) good spelled read = record { is = spelled ∙ ap hexed read.is; fits = read.fits }
-answer-decoded line bytes (Err Malformed) good spelled read = absurd read
-answer-decoded line bytes (Err UnknownKind) good spelled read = record { applies = (bytes, spelled, read); first = first }
+answer_decoded line bytes (Ok c) good spelled read = record { is = spelled ∙ ap hexed read.is; fits = read.fits }
+answer_decoded line bytes (Err Malformed) good spelled read = absurd read
+answer_decoded line bytes (Err UnknownKind) good spelled read = record { applies = (bytes, spelled, read); first = first }
   where
     first : (g : FrameFault) → (told g).number < 2 → Applies g line → ⊥
     first Malformed lower bad = bad good
     first UnknownKind lower applies = omega arith
     first WrongLength lower applies = omega arith
     first TooLate lower applies = applies
-answer-decoded line bytes (Err TooLate) good spelled read = absurd read
-answer-decoded line bytes (Err WrongLength) good spelled read =
+answer_decoded line bytes (Err TooLate) good spelled read = absurd read
+answer_decoded line bytes (Err WrongLength) good spelled read =
     record { applies = (bytes, spelled, read.0); first = first }
   where
     first : (g : FrameFault) → (told g).number < 3 → Applies g line → ⊥
     first Malformed lower bad = bad good
     first UnknownKind lower (others, spells, unknown) =
-        read.1 (subst Unknown (same-hexed others bytes (sym spells ∙ spelled)) unknown)
+        read.1 (subst Unknown (same_hexed others bytes (sym spells ∙ spelled)) unknown)
     first WrongLength lower applies = omega arith
     first TooLate lower applies = applies
 
 -- the frame of a call is bytes
-small-frame : (c : Call) → Fits c → All (λ b. b < 256) (frame_of c)
-small-frame (Open total) fits = search arith parts 20
-small-frame (Bounds leg low high) fits = search arith parts 20
-small-frame (Window stop low high) fits = search arith parts 20
-small-frame (Lift stop) fits = search arith parts 20
-small-frame (Total total) fits = search arith parts 20
-small-frame Close fits = search arith parts 20
-small-frame (AddLeg q t r lo hi) fits = search arith parts 20
-small-frame (SetRate leg rate) fits = search arith parts 20
+small_frame : (c : Call) → Fits c → All (λ b. b < 256) (frame_of c)
+small_frame (Open total) fits = search arith parts 20
+small_frame (Bounds leg low high) fits = search arith parts 20
+small_frame (Window stop low high) fits = search arith parts 20
+small_frame (Lift stop) fits = search arith parts 20
+small_frame (Total total) fits = search arith parts 20
+small_frame Close fits = search arith parts 20
+small_frame (AddLeg q t r lo hi) fits = search arith parts 20
+small_frame (SetRate leg rate) fits = search arith parts 20
 
 -- the frame of a call has a kind and a length of the table
 known : (c : Call) → Unknown (frame_of c) → ⊥
@@ -85,19 +85,19 @@ short Close = omega arith
 short (AddLeg q t r lo hi) = omega arith
 short (SetRate leg rate) = omega arith
 
-well-formed : (c : Call) → Fits c → WellFormed 64 (line_of c)
-well-formed c fits =
+well_formed : (c : Call) → Fits c → WellFormed 64 (line_of c)
+well_formed c fits =
     let size : length (line_of c) ≡ 2 * length (frame_of c) = length-hexed (frame_of c) in
     let most = short c in
-    record { some = omega arith; short = omega arith; even = omega arith; digits = digits-hexed (frame_of c) (small-frame c fits) }
+    record { some = omega arith; short = omega arith; even = omega arith; digits = digits_hexed (frame_of c) (small_frame c fits) }
 
 -- a line that spells a call is not refused
 clash : (line : List ℕ) (c : Call) (f : FrameFault) → Spells line c → Applies f line → ⊥
-clash line c Malformed spells bad = bad (subst (WellFormed 64) (sym spells.is) (well-formed c spells.fits))
+clash line c Malformed spells bad = bad (subst (WellFormed 64) (sym spells.is) (well_formed c spells.fits))
 clash line c UnknownKind spells (bytes, spelled, unknown) =
-    known c (subst Unknown (same-hexed bytes (frame_of c) (sym spelled ∙ spells.is)) unknown)
+    known c (subst Unknown (same_hexed bytes (frame_of c) (sym spelled ∙ spells.is)) unknown)
 clash line c WrongLength spells (bytes, spelled, misfits) =
-    fitting c (subst Misfits (same-hexed bytes (frame_of c) (sym spelled ∙ spells.is)) misfits)
+    fitting c (subst Misfits (same_hexed bytes (frame_of c) (sym spelled ∙ spells.is)) misfits)
 clash line c TooLate spells applies = applies
 
 same_number : (f g : FrameFault) → (told f).number ≡ (told g).number → f ≡ g
@@ -118,12 +118,12 @@ same_number TooLate UnknownKind e = absurd (omega arith)
 same_number TooLate WrongLength e = absurd (omega arith)
 same_number TooLate TooLate e = refl
 
-pub answer-only : (line : List ℕ) (r s : Result Call FrameFault) → Answer line r → Answer line s → s ≡ r
-answer-only line (Ok c) (Ok d) one other =
-    ap Ok (same-frame d c other.fits one.fits (same-hexed (frame_of d) (frame_of c) (sym other.is ∙ one.is)))
-answer-only line (Ok c) (Err g) one other = absurd (clash line c g one other.applies)
-answer-only line (Err f) (Ok d) one other = absurd (clash line d f other one.applies)
-answer-only line (Err f) (Err g) one other =
+pub answer_only : (line : List ℕ) (r s : Result Call FrameFault) → Answer line r → Answer line s → s ≡ r
+answer_only line (Ok c) (Ok d) one other =
+    ap Ok (same_frame d c other.fits one.fits (same_hexed (frame_of d) (frame_of c) (sym other.is ∙ one.is)))
+answer_only line (Ok c) (Err g) one other = absurd (clash line c g one other.applies)
+answer_only line (Err f) (Ok d) one other = absurd (clash line d f other one.applies)
+answer_only line (Err f) (Err g) one other =
     elim (cases_order (told f).number (told g).number) [
       | inl e ↦ ap Err (sym (same_number f g e))
       | inr (inl lower) ↦ absurd (other.first f lower one.applies)

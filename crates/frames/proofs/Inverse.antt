@@ -11,25 +11,25 @@ use Rattle.frames.specs.declared.calls.Call.TheVariants.{Open, Bounds, Window, L
 undigit : ℕ → ℕ
 undigit x = cond (ltb x 58) (x - 48) (x - 55)
 
-undigit-digit : (n : ℕ) → undigit (digit n) ≡ n
+undigit_digit : (n : ℕ) → undigit (digit n) ≡ n
 unfolding undigit
-undigit-digit n = grind (arith, nat_tests)
+undigit_digit n = grind (arith, nat_tests)
 
 unhexed : List ℕ → List ℕ
 unhexed [] = []
 unhexed (x ∷ []) = []
 unhexed (x ∷ y ∷ line) = (16 * undigit x + undigit y) ∷ unhexed line
 
-unhexed-hexed : (bs : List ℕ) → unhexed (hexed bs) ≡ bs
+unhexed_hexed : (bs : List ℕ) → unhexed (hexed bs) ≡ bs
 unfolding unhexed
-unhexed-hexed [] = refl
-unhexed-hexed (b ∷ bs) =
+unhexed_hexed [] = refl
+unhexed_hexed (b ∷ bs) =
     let is : 16 * undigit (digit (b / 16)) + undigit (digit (b % 16)) ≡ b =
-    omega (arith, undigit-digit (b / 16), undigit-digit (b % 16)) in
-    ap (λ x. x ∷ unhexed (hexed bs)) is ∙ ap (λ t. b ∷ t) (unhexed-hexed bs)
+    omega (arith, undigit_digit (b / 16), undigit_digit (b % 16)) in
+    ap (λ x. x ∷ unhexed (hexed bs)) is ∙ ap (λ t. b ∷ t) (unhexed_hexed bs)
 
-pub same-hexed : (bs cs : List ℕ) → hexed bs ≡ hexed cs → bs ≡ cs
-same-hexed bs cs e = sym (unhexed-hexed bs) ∙ ap unhexed e ∙ unhexed-hexed cs
+pub same_hexed : (bs cs : List ℕ) → hexed bs ≡ hexed cs → bs ≡ cs
+same_hexed bs cs e = sym (unhexed_hexed bs) ∙ ap unhexed e ∙ unhexed_hexed cs
 
 -- the number in two bytes, and in four
 two : ℕ → ℕ → ℕ
@@ -73,16 +73,16 @@ four_is : (z : ℤ) → SFits w32 z →
 unfolding four
 four_is z fits = ap (to_z w32) (four_bytes (of_z w32 z) (of_z_fits w32 z fits).fits) ∙ to_z-of_z w32 z fits
 
-unframe-frameOf : (c : Call) → Fits c → unframe (frame_of c) ≡ c
+unframe_frame_of : (c : Call) → Fits c → unframe (frame_of c) ≡ c
 unfolding unframe
-unframe-frameOf (Open total) fits = simp two_is
-unframe-frameOf (Bounds leg low high) (leg-fits, low_fits, high_fits) = simp two_is
-unframe-frameOf (Window stop low high) (stop-fits, low_fits, high_fits) = simp two_is
-unframe-frameOf (Lift stop) fits = refl
-unframe-frameOf (Total total) fits = simp two_is
-unframe-frameOf Close fits = refl
-unframe-frameOf (AddLeg q t r lo hi) (q-fits, t-fits, r-fits, lo-fits, hi-fits) = simp (two_is, four_is)
-unframe-frameOf (SetRate leg rate) (leg-fits, rate-fits) = simp two_is
+unframe_frame_of (Open total) fits = simp two_is
+unframe_frame_of (Bounds leg low high) (leg-fits, low_fits, high_fits) = simp two_is
+unframe_frame_of (Window stop low high) (stop-fits, low_fits, high_fits) = simp two_is
+unframe_frame_of (Lift stop) fits = refl
+unframe_frame_of (Total total) fits = simp two_is
+unframe_frame_of Close fits = refl
+unframe_frame_of (AddLeg q t r lo hi) (q-fits, t-fits, r-fits, lo-fits, hi-fits) = simp (two_is, four_is)
+unframe_frame_of (SetRate leg rate) (leg-fits, rate-fits) = simp two_is
 
-pub same-frame : (c d : Call) → Fits c → Fits d → frame_of c ≡ frame_of d → c ≡ d
-same-frame c d fits-c fits-d e = sym (unframe-frameOf c fits-c) ∙ ap unframe e ∙ unframe-frameOf d fits-d
+pub same_frame : (c d : Call) → Fits c → Fits d → frame_of c ≡ frame_of d → c ≡ d
+same_frame c d fits-c fits-d e = sym (unframe_frame_of c fits-c) ∙ ap unframe e ∙ unframe_frame_of d fits-d

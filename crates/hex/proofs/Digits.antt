@@ -10,9 +10,9 @@ length-hexed [] = refl
 length-hexed (b ∷ bs) = omega (arith, length-hexed bs)
 
 -- one byte more is two characters more
-hexed-push : (bs : List ℕ) (b : ℕ) → hexed (bs ++ b ∷ []) ≡ hexed bs ++ digit (b / 16) ∷ digit (b % 16) ∷ []
-hexed-push [] b = refl
-hexed-push (x ∷ bs) b = ap (λ t. digit (x / 16) ∷ digit (x % 16) ∷ t) (hexed-push bs b)
+hexed_push : (bs : List ℕ) (b : ℕ) → hexed (bs ++ b ∷ []) ≡ hexed bs ++ digit (b / 16) ∷ digit (b % 16) ∷ []
+hexed_push [] b = refl
+hexed_push (x ∷ bs) b = ap (λ t. digit (x / 16) ∷ digit (x % 16) ∷ t) (hexed_push bs b)
 
 -- two characters written past h, what follows as it was
 put_two : (h e : List ℕ) (n a b : ℕ) → length h ≡ n → n + 1 < length e →
@@ -40,11 +40,11 @@ take-two xs n room =
     ∙ append_assoc (take n xs) (get_or xs n 0 ∷ []) (get_or xs (n + 1) 0 ∷ [])
 
 -- one turn of writing
-pub written-more : (bs e p : List ℕ) (i : ℕ) → i < length bs → 2 * length bs ≤ length e →
+pub written_more : (bs e p : List ℕ) (i : ℕ) → i < length bs → 2 * length bs ≤ length e →
     p ≡ hexed (take i bs) ++ drop (2 * i) e →
     set (set p (2 * i) (digit (get_or bs i 0 / 16))) (2 * i + 1) (digit (get_or bs i 0 % 16))
     ≡ hexed (take (i + 1) bs) ++ drop (2 * (i + 1)) e
-written-more bs e p i less room is =
+written_more bs e p i less room is =
     let x : ℕ = get_or bs i 0 in
     let long : length (hexed (take i bs)) ≡ 2 * i =
     omega (arith, length-hexed (take i bs), length-take-le i bs (omega arith)) in
@@ -52,7 +52,7 @@ written-more bs e p i less room is =
     let next : 2 * i + 2 ≡ 2 * (i + 1) = omega arith in
     ap (λ t. set (set t (2 * i) (digit (x / 16))) (2 * i + 1) (digit (x % 16))) is
     ∙ put_two (hexed (take i bs)) e (2 * i) (digit (x / 16)) (digit (x % 16)) long enough
-    ∙ ap (λ t. t ++ drop (2 * i + 2) e) (sym (hexed-push (take i bs) x) ∙ ap hexed (sym (take_more bs i 0 less)))
+    ∙ ap (λ t. t ++ drop (2 * i + 2) e) (sym (hexed_push (take i bs) x) ∙ ap hexed (sym (take_more bs i 0 less)))
     ∙ ap (λ k. hexed (take (i + 1) bs) ++ drop k e) next
 
 -- one turn of reading
@@ -68,7 +68,7 @@ read_more line p i h l room less high low is =
     ∙ ap (λ t. t ++ get_or line (2 * i) 0 ∷ get_or line (2 * i + 1) 0 ∷ []) is
     ∙ ap (λ x. hexed (take i p) ++ x ∷ get_or line (2 * i + 1) 0 ∷ []) (high.1 ∙ ap digit top)
     ∙ ap (λ x. hexed (take i p) ++ digit ((16 * h + l) / 16) ∷ x ∷ []) (low.1 ∙ ap digit rest)
-    ∙ sym (hexed-push (take i p) (16 * h + l))
+    ∙ sym (hexed_push (take i p) (16 * h + l))
     ∙ ap hexed (sym (take_more_set p i (16 * h + l) less))
 
 -- what follows stays as it was
@@ -78,14 +78,14 @@ rest_more p e i v same =
     drop-set-lt (i + 1) p i v less ∙ sym (drop-drop 1 i p) ∙ ap (drop 1) same ∙ drop-drop 1 i e
 
 -- and bytes are written in digits
-digit-is : (n : ℕ) → n < 16 → Digit (digit n)
-digit-is n small = elim (cases_lt n 10) [
+digit_is : (n : ℕ) → n < 16 → Digit (digit n)
+digit_is n small = elim (cases_lt n 10) [
   | inl low ↦ rw (lt-ltb n 10 low) (inl (omega arith, omega arith))
   | inr high ↦ rw (le-ltb n 10 high) (inr (omega arith, omega arith))
 ]
 
-pub digits-hexed : (bs : List ℕ) → All (λ b. b < 256) bs → Digits (hexed bs)
-digits-hexed [] small k less = absurd (omega arith)
-digits-hexed (b ∷ bs) small zero less = digit-is (b / 16) (omega (arith, small.0))
-digits-hexed (b ∷ bs) small (suc zero) less = digit-is (b % 16) (omega arith)
-digits-hexed (b ∷ bs) small (suc (suc k)) less = digits-hexed bs small.1 k (omega arith)
+pub digits_hexed : (bs : List ℕ) → All (λ b. b < 256) bs → Digits (hexed bs)
+digits_hexed [] small k less = absurd (omega arith)
+digits_hexed (b ∷ bs) small zero less = digit_is (b / 16) (omega (arith, small.0))
+digits_hexed (b ∷ bs) small (suc zero) less = digit_is (b % 16) (omega arith)
+digits_hexed (b ∷ bs) small (suc (suc k)) less = digits_hexed bs small.1 k (omega arith)

@@ -6,9 +6,9 @@ use Rattle.lines.specs.Lines.{lines_of}
 use Rattle.lines.specs.declared.lines.Lines.{Lines}
 
 -- the lines that are still to come
-abbrev pub toCome : Lines → List (List ℕ)
-toCome s = lines_of s.rest.now
+abbrev pub to_come : Lines → List (List ℕ)
+to_come s = lines_of s.rest.now
 
 -- one line is handed out, the first of those to come, or none, if there is none
 abbrev pub HandsOut : Lines → Option (Bor (List ℕ)) → Lines → Type 0
-HandsOut s r t = MatchOption r ((toCome s ≡ []) × (toCome t ≡ [])) (λ line. toCome s ≡ line.now ∷ toCome t)
+HandsOut s r t = MatchOption r ((to_come s ≡ []) × (to_come t ≡ [])) (λ line. to_come s ≡ line.now ∷ to_come t)

@@ -1,7 +1,7 @@
 // The lines of a text, handed out one by one as parts of it.
 ghost use Rattle.std.specs.Prelude.{◌≡◌, ℕ, ◌+◌, ◌<◌, ◌≤◌, List, [], ◌∷◌, length, take, drop, ◌≢◌, slice_index};
 ghost use Rattle.lines.specs.Lines.{lines_of, Splits};
-ghost use Rattle.lines.specs.Reader.{toCome, HandsOut};
+ghost use Rattle.lines.specs.Reader.{to_come, HandsOut};
 ghost use Rattle.std.specs.Iterator.{at_most};
 
 // The first characters of a text: as many as the limit says, or all, if there are no more.
@@ -25,7 +25,7 @@ pub struct Lines<'a> {
 impl<'a> Lines<'a> {
     // The lines of a text, from the first on.
     pub fn new(text: &'a [u8]) -> Lines<'a>
-        ensures all { toCome result ≡ lines_of text.now }
+        ensures all { to_come result ≡ lines_of text.now }
         ensures bound { length (lines_of text.now) ≤ length text.now }
         ensures splits { Splits text.now (lines_of text.now) }
         ensures only { (lines : List (List ℕ)) → Splits text.now lines → lines ≡ lines_of text.now }
@@ -39,7 +39,7 @@ impl<'a> Iterator for Lines<'a> {
 
     ghost next_gives = { HandsOut };
 
-    ghost remaining = { λ s. at_most (length (toCome s)) };
+    ghost remaining = { λ s. at_most (length (to_come s)) };
 
     fn next(&mut self) -> Option<&'a [u8]> {
         let text = self.rest;

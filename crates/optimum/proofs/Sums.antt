@@ -5,7 +5,7 @@ use Rattle.amounts.specs.Rows.{none, plus, minus, Within, Ends, InRange}
 use Rattle.books.specs.Meaning.{Meaning, Priced, Ranged, step}
 use Rattle.std.proofs.lemmas.Int.{ints}
 use Rattle.optimum.specs.Rotation.{put, reached, spent}
-use Rattle.optimum.proofs.RowLaws.{plus-swap, plus-chain}
+use Rattle.optimum.proofs.RowLaws.{plus_swap, plus_chain}
 
 pub put_same : (f : ℕ → ℕ) (i v : ℕ) → put f i v i ≡ v
 unfolding put
@@ -17,16 +17,16 @@ put_other f i v ne = grind arith
 
 -- ---- when a stop is reached
 
-pub reached-more : (x : ℕ → ℕ) (k : ℕ) → reached x (k + 1) ≡ reached x k + x (k + 1)
+pub reached_more : (x : ℕ → ℕ) (k : ℕ) → reached x (k + 1) ≡ reached x k + x (k + 1)
 unfolding reached
-reached-more x k = rw add-one refl
+reached_more x k = rw add-one refl
 
 -- leg i is not among the first k
-pub reached-past : (x : ℕ → ℕ) (i v k : ℕ) → k < i → reached (put x i v) k ≡ reached x k
+pub reached_past : (x : ℕ → ℕ) (i v k : ℕ) → k < i → reached (put x i v) k ≡ reached x k
 unfolding reached
-reached-past x i v zero h = refl
-reached-past x i v (suc k) h =
-    let before = reached-past x i v k (omega arith) in
+reached_past x i v zero h = refl
+reached_past x i v (suc k) h =
+    let before = reached_past x i v k (omega arith) in
     let at-k : put x i v (suc k) ≡ x (suc k) = put_other x i v (omega arith) in
     omega arith
 
@@ -44,7 +44,7 @@ reached-put x i v (suc k) p h =
     last e =
         let same : put x i v (suc k) ≡ v = rw (← e) (put_same x i v) in
         let own : x i ≡ x (suc k) = ap x e in
-        omega (arith, reached-past x i v k (omega arith))
+        omega (arith, reached_past x i v k (omega arith))
 
     before :
         i ≢ suc k → reached (put x i v) k + x i ≡ reached x k + v →
@@ -54,73 +54,73 @@ reached-put x i v (suc k) p h =
         omega arith
 
 -- one minute more, or one less, on a leg among the first k
-pub reached-put-up : (x : ℕ → ℕ) (i k : ℕ) → 1 ≤ i → i ≤ k → reached (put x i (x i + 1)) k ≡ reached x k + 1
-reached-put-up x i k p h = omega (arith, reached-put x i (x i + 1) k p h)
+pub reached_put_up : (x : ℕ → ℕ) (i k : ℕ) → 1 ≤ i → i ≤ k → reached (put x i (x i + 1)) k ≡ reached x k + 1
+reached_put_up x i k p h = omega (arith, reached-put x i (x i + 1) k p h)
 
-pub reached-put-down : (x : ℕ → ℕ) (i k : ℕ) → 1 ≤ i → i ≤ k → 0 < x i → reached (put x i (x i - 1)) k + 1 ≡ reached x k
-reached-put-down x i k p h some = omega (arith, reached-put x i (x i - 1) k p h)
+pub reached_put_down : (x : ℕ → ℕ) (i k : ℕ) → 1 ≤ i → i ≤ k → 0 < x i → reached (put x i (x i - 1)) k + 1 ≡ reached x k
+reached_put_down x i k p h some = omega (arith, reached-put x i (x i - 1) k p h)
 
 -- no fewer minutes on any of the first k legs
 -- stops are reached in turn
-pub reached-onward : (x : ℕ → ℕ) (k n : ℕ) → k ≤ n → reached x k ≤ reached x n
+pub reached_onward : (x : ℕ → ℕ) (k n : ℕ) → k ≤ n → reached x k ≤ reached x n
 unfolding reached
-reached-onward x k zero h = let e : k ≡ 0 = omega arith in rw e (omega arith)
-reached-onward x k (suc n) h =
+reached_onward x k zero h = let e : k ≡ 0 = omega arith in rw e (omega arith)
+reached_onward x k (suc n) h =
     elim (dec_le k n) [
-      | yes before ↦ omega (arith, reached-onward x k n before)
+      | yes before ↦ omega (arith, reached_onward x k n before)
       | no after ↦ let e : k ≡ suc n = omega arith in rw e (omega arith)
     ]
 
-pub reached-mono : (x y : ℕ → ℕ) (k : ℕ) → ((i : ℕ) → 1 ≤ i → i ≤ k → x i ≤ y i) → reached x k ≤ reached y k
+pub reached_mono : (x y : ℕ → ℕ) (k : ℕ) → ((i : ℕ) → 1 ≤ i → i ≤ k → x i ≤ y i) → reached x k ≤ reached y k
 unfolding reached
-reached-mono x y zero le = omega arith
-reached-mono x y (suc k) le = omega (arith, reached-mono x y k (λ i p h. le i p (omega arith)), le (suc k) (omega arith) (omega arith))
+reached_mono x y zero le = omega arith
+reached_mono x y (suc k) le = omega (arith, reached_mono x y k (λ i p h. le i p (omega arith)), le (suc k) (omega arith) (omega arith))
 
 -- where y reaches stop k later than x, one of its legs is longer
-pub reached-gap : (x y : ℕ → ℕ) (k : ℕ) → reached x k < reached y k → (j : ℕ) × (1 ≤ j) × (j ≤ k) × (x j < y j)
+pub reached_gap : (x y : ℕ → ℕ) (k : ℕ) → reached x k < reached y k → (j : ℕ) × (1 ≤ j) × (j ≤ k) × (x j < y j)
 unfolding reached
-reached-gap x y zero h = absurd (omega arith)
-reached-gap x y (suc k) h =
+reached_gap x y zero h = absurd (omega arith)
+reached_gap x y (suc k) h =
     elim (dec_lt (x (suc k)) (y (suc k))) [
       | yes lt ↦ (suc k, omega arith, omega arith, lt)
-      | no ge ↦ before (reached-gap x y k (omega arith))
+      | no ge ↦ before (reached_gap x y k (omega arith))
     ]
   where
     before : (j : ℕ) × (1 ≤ j) × (j ≤ k) × (x j < y j) → (j : ℕ) × (1 ≤ j) × (j ≤ suc k) × (x j < y j)
     before g = (g.0, g.1, omega arith, g.3)
 
 -- the same legs reach the same
-pub reached-same : (x y : ℕ → ℕ) (k : ℕ) → ((i : ℕ) → 1 ≤ i → i ≤ k → x i ≡ y i) → reached x k ≡ reached y k
-reached-same x y k same =
-    let up = reached-mono x y k (λ i p h. omega (arith, same i p h)) in
-    let down = reached-mono y x k (λ i p h. omega (arith, same i p h)) in
+pub reached_same : (x y : ℕ → ℕ) (k : ℕ) → ((i : ℕ) → 1 ≤ i → i ≤ k → x i ≡ y i) → reached x k ≡ reached y k
+reached_same x y k same =
+    let up = reached_mono x y k (λ i p h. omega (arith, same i p h)) in
+    let down = reached_mono y x k (λ i p h. omega (arith, same i p h)) in
     omega arith
 
 -- no leg longer, and together no less: each leg the same
-pub reached-tight :
+pub reached_tight :
     (x y : ℕ → ℕ) (k : ℕ) → ((i : ℕ) → 1 ≤ i → i ≤ k → x i ≤ y i) → reached y k ≤ reached x k → (i : ℕ) → 1 ≤ i → i ≤ k →
     x i ≡ y i
 unfolding reached
-reached-tight x y zero le all i p h = absurd (omega arith)
-reached-tight x y (suc k) le all i p h =
+reached_tight x y zero le all i p h = absurd (omega arith)
+reached_tight x y (suc k) le all i p h =
     let here = le (suc k) (omega arith) (omega arith) in
     let below : (i : ℕ) → 1 ≤ i → i ≤ k → x i ≤ y i = λ i p h. le i p (omega arith) in
-    let rest = reached-mono x y k below in
-    elim (ℕ_discrete i (suc k)) [ yes e ↦ rw e (omega arith) | no ne ↦ reached-tight x y k below (omega arith) i p (omega arith) ]
+    let rest = reached_mono x y k below in
+    elim (ℕ_discrete i (suc k)) [ yes e ↦ rw e (omega arith) | no ne ↦ reached_tight x y k below (omega arith) i p (omega arith) ]
 
 -- ---- what the first k legs cost
 
-pub spent-more : (b : Meaning) (x : ℕ → ℕ) (k : ℕ) → spent b x (k + 1) ≡ plus (spent b x k) (b.cost (k + 1) (x (k + 1)))
+pub spent_more : (b : Meaning) (x : ℕ → ℕ) (k : ℕ) → spent b x (k + 1) ≡ plus (spent b x k) (b.cost (k + 1) (x (k + 1)))
 unfolding spent
-spent-more b x k = rw add-one refl
+spent_more b x k = rw add-one refl
 
-pub spent-same : (b : Meaning) (x y : ℕ → ℕ) (k : ℕ) → ((i : ℕ) → 1 ≤ i → i ≤ k → x i ≡ y i) → spent b x k ≡ spent b y k
+pub spent_same : (b : Meaning) (x y : ℕ → ℕ) (k : ℕ) → ((i : ℕ) → 1 ≤ i → i ≤ k → x i ≡ y i) → spent b x k ≡ spent b y k
 unfolding spent
-spent-same b x y zero same = refl
-spent-same b x y (suc k) same = rw (spent-same b x y k (λ i p h. same i p (omega arith)), same (suc k) (omega arith) (omega arith)) refl
+spent_same b x y zero same = refl
+spent_same b x y (suc k) same = rw (spent_same b x y k (λ i p h. same i p (omega arith)), same (suc k) (omega arith) (omega arith)) refl
 
-pub spent-past : (b : Meaning) (x : ℕ → ℕ) (i v k : ℕ) → k < i → spent b (put x i v) k ≡ spent b x k
-spent-past b x i v k h = spent-same b (put x i v) x k (λ j p le. put_other x i v (omega arith))
+pub spent_past : (b : Meaning) (x : ℕ → ℕ) (i v k : ℕ) → k < i → spent b (put x i v) k ≡ spent b x k
+spent_past b x i v k h = spent_same b (put x i v) x k (λ j p le. put_other x i v (omega arith))
 
 -- leg i is among the first k
 pub spent-put :
@@ -137,12 +137,12 @@ spent-put b x i v (suc k) p h =
     last :
         i ≡ suc k →
         plus (plus (spent b (put x i v) k) (b.cost (suc k) (put x i v (suc k)))) (b.cost i (x i)) ≡ plus (plus (spent b x k) (b.cost (suc k) (x (suc k)))) (b.cost i v)
-    last e = rw (spent-past b x i v k (omega arith), ← e, put_same x i v) (plus-swap _ _ _)
+    last e = rw (spent_past b x i v k (omega arith), ← e, put_same x i v) (plus_swap _ _ _)
 
     before :
         i ≢ suc k → plus (spent b (put x i v) k) (b.cost i (x i)) ≡ plus (spent b x k) (b.cost i v) →
         plus (plus (spent b (put x i v) k) (b.cost (suc k) (put x i v (suc k)))) (b.cost i (x i)) ≡ plus (plus (spent b x k) (b.cost (suc k) (x (suc k)))) (b.cost i v)
-    before ne ih = rw (put_other x i v (λ e. ne (sym e))) (plus-swap _ _ _ ∙ ap (λ r. plus r (b.cost (suc k) (x (suc k)))) ih ∙ plus-swap _ _ _)
+    before ne ih = rw (put_other x i v (λ e. ne (sym e))) (plus_swap _ _ _ ∙ ap (λ r. plus r (b.cost (suc k) (x (suc k)))) ih ∙ plus_swap _ _ _)
 
 -- ---- one minute of leg j given to leg i
 
@@ -153,9 +153,9 @@ pub moved_to : (y : ℕ → ℕ) (j i : ℕ) → moved y j i i ≡ y i + 1
 unfolding moved
 moved_to y j i = put_same _ i _
 
-pub moved-from : (y : ℕ → ℕ) (j i : ℕ) → j ≢ i → moved y j i j ≡ y j - 1
+pub moved_from : (y : ℕ → ℕ) (j i : ℕ) → j ≢ i → moved y j i j ≡ y j - 1
 unfolding moved
-moved-from y j i ne = put_other _ i _ ne ∙ put_same y j _
+moved_from y j i ne = put_other _ i _ ne ∙ put_same y j _
 
 pub moved_other : (y : ℕ → ℕ) (j i : ℕ) {k : ℕ} → k ≢ j → k ≢ i → moved y j i k ≡ y k
 unfolding moved
@@ -170,20 +170,20 @@ reached-moved y j i k p h p' h' ne some =
     omega (arith, reached-put (put y j (y j - 1)) i (y i + 1) k p' h', reached-put y j (y j - 1) k p h)
 
 -- a stop before both too
-pub reached-unmoved : (y : ℕ → ℕ) (j i k : ℕ) → k < j → k < i → reached (moved y j i) k ≡ reached y k
+pub reached_unmoved : (y : ℕ → ℕ) (j i k : ℕ) → k < j → k < i → reached (moved y j i) k ≡ reached y k
 unfolding moved
-reached-unmoved y j i k far later = reached-past _ i _ k later ∙ reached-past y j _ k far
+reached_unmoved y j i k far later = reached_past _ i _ k later ∙ reached_past y j _ k far
 
 -- a stop between them a minute sooner or later
-pub reached-sooner : (y : ℕ → ℕ) (j i k : ℕ) → 1 ≤ j → j ≤ k → k < i → 0 < y j → reached (moved y j i) k + 1 ≡ reached y k
+pub reached_sooner : (y : ℕ → ℕ) (j i k : ℕ) → 1 ≤ j → j ≤ k → k < i → 0 < y j → reached (moved y j i) k + 1 ≡ reached y k
 unfolding moved
-reached-sooner y j i k p h later some = rw (reached-past (put y j (y j - 1)) i (y i + 1) k later) (reached-put-down y j k p h some)
+reached_sooner y j i k p h later some = rw (reached_past (put y j (y j - 1)) i (y i + 1) k later) (reached_put_down y j k p h some)
 
 pub reached-later : (y : ℕ → ℕ) (j i k : ℕ) → 1 ≤ i → i ≤ k → k < j → reached (moved y j i) k ≡ reached y k + 1
 unfolding moved
 reached-later y j i k p h later =
     let own : put y j (y j - 1) i ≡ y i = put_other y j _ (omega arith) in
-    omega (arith, reached-put (put y j (y j - 1)) i (y i + 1) k p h, reached-past y j (y j - 1) k later)
+    omega (arith, reached-put (put y j (y j - 1)) i (y i + 1) k p h, reached_past y j (y j - 1) k later)
 
 -- and the cost changes by two steps
 pub spent-moved :
@@ -194,7 +194,7 @@ spent-moved b y j i k p h p' h' ne some =
     let own : put y j (y j - 1) i ≡ y i = put_other y j _ (λ e. ne (sym e)) in
     let back : y j - 1 + 1 ≡ y j = omega arith in
     let given = spent-put b (put y j (y j - 1)) i (y i + 1) k p' h' in
-    rw back (plus-chain _ _ _ _ _ _ _ (rw own at given) (spent-put b y j (y j - 1) k p h))
+    rw back (plus_chain _ _ _ _ _ _ _ (rw own at given) (spent-put b y j (y j - 1) k p h))
 
 -- ---- ranges
 
@@ -215,10 +215,10 @@ within-spent b range x (suc k) few ends q h =
     omega (arith, ints)
 
 -- the sum over at most 64 legs lies in the range of amounts
-pub spent-range :
+pub spent_range :
     {n : ℕ} (b : Meaning) → Ranged n b → b.legs ≤ 64 → (x : ℕ → ℕ) (k : ℕ) → k ≤ b.legs → InEnds b x k →
     InRange n (spent b x k)
-spent-range b range short x k few ends q h = let sum = within-spent b range x k few ends q h in omega (arith, ints)
+spent_range b range short x k few ends q h = let sum = within-spent b range x k few ends q h in omega (arith, ints)
 
 pub spent_ends : {n : ℕ} (b : Meaning) → Ranged n b → (x : ℕ → ℕ) (k : ℕ) → k ≤ b.legs → InEnds b x k → Ends n (spent b x k)
 unfolding spent none plus

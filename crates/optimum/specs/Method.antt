@@ -3,7 +3,7 @@
 use Rattle.std.specs.Prelude.{◌≡◌, ℕ, ◌<◌, ◌≤◌, ◌⊎◌}
 use Rattle.amounts.specs.Rows.{Row}
 use Rattle.books.specs.Meaning.{Meaning, IsLeg, step}
-use Rattle.optimum.specs.Rotation.{Settings, reached, earliest, latest, cost-of, Keeps, Timing}
+use Rattle.optimum.specs.Rotation.{Settings, reached, earliest, latest, cost_of_timing, Keeps, Timing}
 
 -- the minutes of the first k legs that keep their bounds and windows reach stop k at the minutes from e to f, each of them
 pub record Reach (n : ℕ) (s : Settings) (k e f : ℕ) : Type 0 where
@@ -29,7 +29,7 @@ Held b s l u = (z : ℕ → ℕ) × Timing b.legs s z × InBox b.legs l u z
 
 -- a timing in the box from l to u that costs no more than y
 abbrev pub Matched : Meaning → (Row → Row → Type 0) → Settings → (ℕ → ℕ) → (ℕ → ℕ) → (ℕ → ℕ) → Type 0
-Matched b le s l u y = (z : ℕ → ℕ) × Timing b.legs s z × InBox b.legs l u z × le (cost-of b z) (cost-of b y)
+Matched b le s l u y = (z : ℕ → ℕ) × Timing b.legs s z × InBox b.legs l u z × le (cost_of_timing b z) (cost_of_timing b y)
 
 -- no list of the box with the day's total reaches stop j too late: its longest minutes do not, or the total comes no later
 abbrev pub Closed : Meaning → Settings → (ℕ → ℕ) → ℕ → Type 0

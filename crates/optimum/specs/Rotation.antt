@@ -57,10 +57,10 @@ spent b x zero = none
 spent b x (suc k) = plus (spent b x k) (b.cost (suc k) (x (suc k)))
 
 -- what a timing costs: the sum over the legs
-abbrev pub cost-of : Meaning → (ℕ → ℕ) → Row
-cost-of b x = spent b x b.legs
+abbrev pub cost_of_timing : Meaning → (ℕ → ℕ) → Row
+cost_of_timing b x = spent b x b.legs
 
 -- a timing, and every other costs at least as much
 pub record Cheapest (b : Meaning) (le : Row → Row → Type 0) (s : Settings) (x : ℕ → ℕ) : Type 0 where
   pub timing : Timing b.legs s x
-  pub least : (y : ℕ → ℕ) → Timing b.legs s y → le (cost-of b x) (cost-of b y)
+  pub least : (y : ℕ → ℕ) → Timing b.legs s y → le (cost_of_timing b x) (cost_of_timing b y)

@@ -3,7 +3,7 @@ ghost use Rattle.std.specs.Prelude.{ℕ};
 ghost use Rattle.amounts.specs.Rows.{Same};
 ghost use Rattle.books.specs.Meaning.{Meaning};
 ghost use Rattle.optimum.specs.Prices.{PriceRule};
-ghost use Rattle.optimum.specs.Rotation.{Settings, Timing, Cheapest, cost-of};
+ghost use Rattle.optimum.specs.Rotation.{Settings, Timing, Cheapest, cost_of_timing};
 
 use amounts::Amount;
 
@@ -19,5 +19,5 @@ pub struct Price {
 // prices that keep the rule is cheapest, and all cheapest timings of the same settings cost the same.
 pub fn price_laws<A: Amount>()
     ensures certified { (b : Meaning) (s : Settings) (x : ℕ → ℕ) (p : ℕ → Price) → Timing b.legs s x → PriceRule b A.Amount.le s x p → Cheapest b A.Amount.le s x }
-    ensures agreed { (b : Meaning) (s : Settings) (x y : ℕ → ℕ) → Cheapest b A.Amount.le s x → Cheapest b A.Amount.le s y → Same A.Amount.places (cost-of b x) (cost-of b y) }
+    ensures agreed { (b : Meaning) (s : Settings) (x y : ℕ → ℕ) → Cheapest b A.Amount.le s x → Cheapest b A.Amount.le s y → Same A.Amount.places (cost_of_timing b x) (cost_of_timing b y) }
 {}

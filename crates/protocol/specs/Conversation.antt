@@ -18,7 +18,7 @@ Heard room stage (Ok call) reply n after = Served room stage (requested call) re
 -- what the line with the number n is answered, and the stage after it
 pub record Line (room : Areas) (stage : Stage) (line : List ℕ) (reply : Reply) (n : ℕ) (after : Stage) : Type 0 where
   pub read : Result Call FrameFault
-  pub so-read : Answer line read
+  pub so_read : Answer line read
   pub heard : Heard room stage read reply n after
 
 -- what lines are answered, the first of which has the number n: each by the line that spells its answer, and a line feed after it

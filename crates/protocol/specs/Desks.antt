@@ -12,29 +12,29 @@ use Rattle.register.specs.Register.{blank, Areas, Answered}
 use Rattle.states.specs.States.{reading, Sound}
 use Rattle.register.specs.declared.call.Call.{Call}
 use Rattle.states.specs.declared.state.State.{State}
-use Rattle.protocol.specs.Stages.{Stage, writing, timing-on, book, no-dearer, Told}
+use Rattle.protocol.specs.Stages.{Stage, writing, timing_on, book, NoDearer, Told}
 use Rattle.protocol.specs.declared.desk.Desk.{Desk}
 use Rattle.protocol.specs.declared.desk.Desk.TheVariants.{Draft, Timing as OnSheet}
 use Rattle.protocol.specs.declared.timing.Timing.{Timing}
 
 -- the formula legs of a charge book
-abbrev pub legs-of : ChargeBook FormulaBook → Meaning
-legs-of b = formulas b.below.legs b.below.count
+abbrev pub legs_of : ChargeBook FormulaBook → Meaning
+legs_of b = formulas b.below.legs b.below.count
 
 -- a desk read as a stage
 abbrev pub stage : Desk → Stage
-stage (Draft b) = writing (legs-of b) b.rates.values
-stage (OnSheet s) = timing-on (legs-of s.book) s.book.rates.values (reading s.state)
+stage (Draft b) = writing (legs_of b) b.rates.values
+stage (OnSheet s) = timing_on (legs_of s.book) s.book.rates.values (reading s.state)
 
 -- the first call for the sheet finishes the book, and finds a blank sheet
 abbrev pub finished : Stage → Stage
-finished (writing legs rates) = timing-on legs rates blank
-finished (timing-on legs rates r) = timing-on legs rates r
+finished (writing legs rates) = timing_on legs rates blank
+finished (timing_on legs rates r) = timing_on legs rates r
 
 -- the sheet of a desk, if there is one, is sound for its book
 abbrev pub Sane : Desk → Type 0
 Sane (Draft b) = Unit {0}
-Sane (OnSheet s) = Sound (book (legs-of s.book) s.book.rates.values) no-dearer s.state
+Sane (OnSheet s) = Sound (book (legs_of s.book) s.book.rates.values) NoDearer s.state
 
 -- what the result of a line or a call says, its faults told by `told`: done, a timing, or a refusal with the line's number
 abbrev pub reply : {F : Type 0} → (F → Refusal) → ℕ → Result (Option Timing) F → Reply
@@ -50,4 +50,4 @@ noted told n (Err fault) = refused (told fault) n
 -- a call on a sheet over the book b, from one state to the next, with its result: what the register answers, and how it is told
 abbrev pub Stated : Meaning → Areas → State → Call → (ℕ → Reply) → State → Type 0
 Stated b room old call told new =
-    (answer : register.Reply) × Answered b no-dearer (reading old) call room answer (reading new) × ((n : ℕ) → Told b answer (reading new) n (told n))
+    (answer : register.Reply) × Answered b NoDearer (reading old) call room answer (reading new) × ((n : ℕ) → Told b answer (reading new) n (told n))

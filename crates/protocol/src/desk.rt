@@ -4,7 +4,7 @@ ghost use Rattle.register.specs.Faults as sheets;
 ghost use Rattle.states.specs.States.{lent};
 ghost use Rattle.protocol.specs.Faults.{told};
 ghost use Rattle.protocol.specs.Conversation.{Line};
-ghost use Rattle.protocol.specs.Desks.{stage, Sane, reply, noted, legs-of, finished};
+ghost use Rattle.protocol.specs.Desks.{stage, Sane, reply, noted, legs_of, finished};
 ghost use Rattle.protocol.specs.Stages.{writing, Start, Entered, Timed};
 ghost use Rattle.protocol.specs.declared.desk.Desk.TheVariants.{Timing};
 
@@ -28,7 +28,7 @@ pub(crate) enum Desk {
 
 // Writes an entry in a book, or refuses it and leaves the book as it stood.
 fn enter(book: &mut ChargeBook<FormulaBook>, entry: Entry) -> Result<(), SheetFault>
-    ensures { (n : ℕ) → Entered (writing (legs-of book.old) book.old.rates.values) entry (noted sheets.told n result) n (writing (legs-of book.new) book.new.rates.values) }
+    ensures { (n : ℕ) → Entered (writing (legs_of book.old) book.old.rates.values) entry (noted sheets.told n result) n (writing (legs_of book.new) book.new.rates.values) }
 {
     match entry {
         Entry::Leg(leg) => Ok(book.add_leg(leg)?),

@@ -2,9 +2,9 @@
 ghost use Rattle.std.specs.Prelude.{◌≡◌, ℕ, ◌+◌, ◌<◌, ◌≤◌, length, slice_index};
 ghost use Rattle.register.specs.Faults.{told};
 ghost use Rattle.register.specs.Register.{Stands};
-ghost use Rattle.states.specs.States.{reading, minutes-of, lent, Sound};
-ghost use Rattle.protocol.specs.Desks.{legs-of, reply, Stated};
-ghost use Rattle.protocol.specs.Stages.{book as priced, no-dearer};
+ghost use Rattle.states.specs.States.{reading, minutes_of, lent, Sound};
+ghost use Rattle.protocol.specs.Desks.{legs_of, reply, Stated};
+ghost use Rattle.protocol.specs.Stages.{book as priced, NoDearer};
 
 use crate::timing::Timing;
 use amounts::{Cents, Kilograms, Ranked};
@@ -16,8 +16,8 @@ use sheet::Sheet;
 // The minutes that stand on a sheet, leg 1 first, and how many there are.
 fn flown(sheet: &Sheet<ChargeBook<FormulaBook>>) -> ([u16; 64], usize)
     ensures few { result.1 ≤ length result.0 }
-    ensures legs { Stands (reading sheet.now.state) → result.1 ≡ (legs-of sheet.now.book).legs }
-    ensures minutes { (k : ℕ) → k < result.1 → slice_index result.0 k ≡ minutes-of sheet.now.state (k + 1) }
+    ensures legs { Stands (reading sheet.now.state) → result.1 ≡ (legs_of sheet.now.book).legs }
+    ensures minutes { (k : ℕ) → k < result.1 → slice_index result.0 k ≡ minutes_of sheet.now.state (k + 1) }
 {
     let mut place = [0; 64];
     for k in 0..64u8 {
@@ -36,10 +36,10 @@ pub(crate) fn carry_out(
     minutes: &mut [u16],
     amounts: &mut [Ranked<Kilograms, Cents>],
 ) -> Result<Option<Timing>, SheetFault>
-    requires { Sound (priced (legs-of sheet.old.book) sheet.old.book.rates.values) no-dearer sheet.old.state }
+    requires { Sound (priced (legs_of sheet.old.book) sheet.old.book.rates.values) NoDearer sheet.old.state }
     ensures over { sheet.new.book ≡ sheet.old.book }
-    ensures sound { Sound (priced (legs-of sheet.old.book) sheet.old.book.rates.values) no-dearer sheet.new.state }
-    ensures stated { Stated (priced (legs-of sheet.old.book) sheet.old.book.rates.values) (lent minutes.old amounts.old) sheet.old.state call (λ n. reply told n result) sheet.new.state }
+    ensures sound { Sound (priced (legs_of sheet.old.book) sheet.old.book.rates.values) NoDearer sheet.new.state }
+    ensures stated { Stated (priced (legs_of sheet.old.book) sheet.old.book.rates.values) (lent minutes.old amounts.old) sheet.old.state call (λ n. reply told n result) sheet.new.state }
 {
     let Some(cost) = sheet.call(call, minutes, amounts)? else {
         return Ok(None);

@@ -6,7 +6,7 @@ use Rattle.amounts.specs.Rows.{Row}
 use Rattle.board.specs.Rules.{Rule, whole, each, Clear, Broken}
 use Rattle.board.specs.declared.Refusal.{Refusal}
 use Rattle.books.specs.Meaning.{Meaning, IsLeg}
-use Rattle.optimum.specs.Rotation.{Settings, put, Stuck, Cheapest, cost-of}
+use Rattle.optimum.specs.Rotation.{Settings, put, Stuck, Cheapest, cost_of_timing}
 use Rattle.register.specs.Calls.{named}
 use Rattle.register.specs.Faults.{row}
 use Rattle.register.specs.declared.call.Call.{Call}
@@ -33,16 +33,16 @@ abbrev pub opened : Meaning → ℕ → Settings
 opened b total = record { total = total; low = legwise b.legs b.lo; high = legwise b.legs b.hi; opens = λ k. 0; shuts = λ k. 4095 }
 
 -- the settings s with the bounds c to d of leg i; the rest stays
-abbrev pub with-bounds : ℕ → ℕ → ℕ → Settings → Settings
-with-bounds i c d s = record { total = s.total; low = put s.low i c; high = put s.high i d; opens = s.opens; shuts = s.shuts }
+abbrev pub with_bounds : ℕ → ℕ → ℕ → Settings → Settings
+with_bounds i c d s = record { total = s.total; low = put s.low i c; high = put s.high i d; opens = s.opens; shuts = s.shuts }
 
 -- the settings s with the window a to b of stop k; the rest stays
-abbrev pub with-window : ℕ → ℕ → ℕ → Settings → Settings
-with-window k a b s = record { total = s.total; low = s.low; high = s.high; opens = put s.opens k a; shuts = put s.shuts k b }
+abbrev pub with_window : ℕ → ℕ → ℕ → Settings → Settings
+with_window k a b s = record { total = s.total; low = s.low; high = s.high; opens = put s.opens k a; shuts = put s.shuts k b }
 
 -- the settings s with another total; the rest stays
-abbrev pub with-total : ℕ → Settings → Settings
-with-total total s = record { total = total; low = s.low; high = s.high; opens = s.opens; shuts = s.shuts }
+abbrev pub with_total : ℕ → Settings → Settings
+with_total total s = record { total = total; low = s.low; high = s.high; opens = s.opens; shuts = s.shuts }
 
 -- the settings that a register holds. A blank one holds none, and any would do here, those of an open with total 0:
 -- a call that reads them is refused by row 10
@@ -53,10 +53,10 @@ held b (standing s) = s
 -- the settings that a call leaves
 abbrev pub after : Meaning → Register → Call → Settings
 after b r (Open total) = opened b total
-after b r (Bounds leg low high) = with-bounds leg low high (held b r)
-after b r (Window stop low high) = with-window stop low high (held b r)
-after b r (Lift stop) = with-window stop 0 4095 (held b r)
-after b r (Total total) = with-total total (held b r)
+after b r (Bounds leg low high) = with_bounds leg low high (held b r)
+after b r (Window stop low high) = with_window stop low high (held b r)
+after b r (Lift stop) = with_window stop 0 4095 (held b r)
+after b r (Total total) = with_total total (held b r)
 after b r Close = held b r
 
 -- ---- the rows of the refusal board
@@ -141,16 +141,16 @@ abbrev pub Timeless : Meaning → Register → Call → ℕ → Type 0
 Timeless b r call k = Times call × IsLeg b k × Stuck b.legs (after b r call) k
 
 -- rows 9 to 15 in order, each with what it tells: the leg or stop that the call names
-abbrev pub entry-rows : Meaning → Register → Call → Areas → List Rule
-entry-rows b r call areas = whole (Reopened r call) (row 9 (named call)) ∷ (whole (Unopened r call) (row 10 (named call)) ∷ (whole (Elsewhere b call) (row 11 (named call)) ∷ (whole (Crossed call) (row 12 (named call)) ∷ (whole (TooLarge call) (row 13 (named call)) ∷ (whole (Outside b call) (row 14 (named call)) ∷ (whole (Cramped b r call areas) (row 15 (named call)) ∷ []))))))
+abbrev pub entry_rows : Meaning → Register → Call → Areas → List Rule
+entry_rows b r call areas = whole (Reopened r call) (row 9 (named call)) ∷ (whole (Unopened r call) (row 10 (named call)) ∷ (whole (Elsewhere b call) (row 11 (named call)) ∷ (whole (Crossed call) (row 12 (named call)) ∷ (whole (TooLarge call) (row 13 (named call)) ∷ (whole (Outside b call) (row 14 (named call)) ∷ (whole (Cramped b r call areas) (row 15 (named call)) ∷ []))))))
 
 -- row 16: it tells the lowest leg at which nothing is left
-abbrev pub timing-rows : Meaning → Register → Call → List Rule
-timing-rows b r call = each (Timeless b r call) (row 16) ∷ []
+abbrev pub timing_rows : Meaning → Register → Call → List Rule
+timing_rows b r call = each (Timeless b r call) (row 16) ∷ []
 
 -- all rows of a call, in order
 abbrev pub board : Meaning → Register → Call → Areas → List Rule
-board b r call areas = entry-rows b r call areas ++ timing-rows b r call
+board b r call areas = entry_rows b r call areas ++ timing_rows b r call
 
 -- ---- the register's answer
 
@@ -165,7 +165,7 @@ pub data Reply : Type 0 where
 -- A granted close blanks the register and tells no cost.
 abbrev pub Answer : Meaning → (Row → Row → Type 0) → Register → Call → Areas → Reply → Register → Type 0
 Answer b le r call areas (refused why) r' = Broken (board b r call areas) why × (r' ≡ r)
-Answer b le r call areas (granted cost) r' = Clear (board b r call areas) × Times call × (r' ≡ standing (after b r call)) × ((x : ℕ → ℕ) × Cheapest b le (after b r call) x × (cost ≡ cost-of b x))
+Answer b le r call areas (granted cost) r' = Clear (board b r call areas) × Times call × (r' ≡ standing (after b r call)) × ((x : ℕ → ℕ) × Cheapest b le (after b r call) x × (cost ≡ cost_of_timing b x))
 Answer b le r call areas closed r' = Clear (board b r call areas) × (Times call → ⊥) × (r' ≡ blank)
 
 -- the same as one record, so that its parts can be named

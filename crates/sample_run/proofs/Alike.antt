@@ -12,11 +12,11 @@ module _ (old new : Meaning) (n : ℕ) (leg : FormulaLeg) (so_far : LegsOf old n
   all P kept last i is =
       elim (cases_eq i (old.legs + 1)) [ inl same ↦ rw same last | inr other ↦ kept i (is.0, omega (arith, more.more, is.1)) ]
 
-  pub legs-more : LegsOf new (n + 1) leg
-  legs-more =
+  pub legs_more : LegsOf new (n + 1) leg
+  legs_more =
       record {
         count = omega (arith, more.more, so_far.count);
-        lo = all (λ i. new.lo i ≡ leg.lo) (λ i is. more.lo-kept i is ∙ so_far.lo i is) more.lo-of-it;
-        hi = all (λ i. new.hi i ≡ leg.hi) (λ i is. more.hi-kept i is ∙ so_far.hi i is) more.hi-of-it;
-        cost = λ i m is. all (λ i. new.cost i m ≡ _) (λ i is. more.cost-kept i m is ∙ so_far.cost i m is) (more.cost-of-it m) i is;
+        lo = all (λ i. new.lo i ≡ leg.lo) (λ i is. more.lo_kept i is ∙ so_far.lo i is) more.lo_of_it;
+        hi = all (λ i. new.hi i ≡ leg.hi) (λ i is. more.hi_kept i is ∙ so_far.hi i is) more.hi_of_it;
+        cost = λ i m is. all (λ i. new.cost i m ≡ _) (λ i is. more.cost_kept i m is ∙ so_far.cost i m is) (more.cost_of_it m) i is;
       }

@@ -5,16 +5,16 @@ use Rattle.std.specs.Fmt.{signed_decimal}
 use Rattle.board.specs.declared.Refusal.{Refusal}
 
 -- an amount in kilograms
-abbrev pub kilogramsWords : ℤ → List ℕ
-kilogramsWords v = signed_decimal v ++ codes " kg"
+abbrev pub words_of_kilograms : ℤ → List ℕ
+words_of_kilograms v = signed_decimal v ++ codes " kg"
 
 -- an amount in kilograms with cents behind it
-abbrev pub centsWords : ℤ → ℤ → List ℕ
-centsWords v w = signed_decimal v ++ (codes " kg then " ++ (signed_decimal w ++ codes " cents"))
+abbrev pub words_of_cents : ℤ → ℤ → List ℕ
+words_of_cents v w = signed_decimal v ++ (codes " kg then " ++ (signed_decimal w ++ codes " cents"))
 
 -- a refusal: its number and the leg that it tells
-abbrev pub refusalWords : Refusal → List ℕ
-refusalWords r = codes "refused " ++ (decimal r.number ++ (codes ", leg " ++ decimal r.leg))
+abbrev pub words_of_refusal : Refusal → List ℕ
+words_of_refusal r = codes "refused " ++ (decimal r.number ++ (codes ", leg " ++ decimal r.leg))
 
 -- the minutes x of the legs 1 to n, each behind a space
 unfoldable pub spaced : (ℕ → ℕ) → ℕ → List ℕ

@@ -1,47 +1,47 @@
 -- What the costs of the sample books add up to: one place in kilograms, or two in kilograms and cents.
 use Rattle.std.proofs.Common.{◌≡◌, ℕ, zero, suc, ◌*◌, List, [], ◌∷◌, replicate, ℤ, pos, ◌+ℤ◌, sym, ap, ◌∙◌}
 use Rattle.amounts.specs.Rows.{Row, single, joined, plus, none}
-use Rattle.amounts.specs.Singles.{plus-single, single-zero}
+use Rattle.amounts.specs.Singles.{plus-single, single_zero}
 use Rattle.amounts.specs.JoinedRows.{plus-joined, joined-none}
 use Rattle.charges.specs.Charges.{charged, rate}
 use Rattle.books.specs.Formula.{formulas, kilograms, at}
 use Rattle.books.specs.declared.formula.FormulaLeg.{FormulaLeg}
-use Rattle.optimum.specs.Rotation.{spent, cost-of}
+use Rattle.optimum.specs.Rotation.{spent, cost_of_timing}
 use Rattle.samples.specs.Samples.{leg, legs, rated}
 
 -- kilograms on the legs add up to kilograms
-number-sum : (ls : List FormulaLeg) (n : ℕ) (x : ℕ → ℕ) (k : ℕ) → spent (formulas ls n) x k ≡ single (spent (formulas ls n) x k 0)
+number_sum : (ls : List FormulaLeg) (n : ℕ) (x : ℕ → ℕ) (k : ℕ) → spent (formulas ls n) x k ≡ single (spent (formulas ls n) x k 0)
 unfolding spent plus single none
-number-sum ls n x zero = sym single-zero
-number-sum ls n x (suc k) =
+number_sum ls n x zero = sym single_zero
+number_sum ls n x (suc k) =
     let v = kilograms (at ls (suc k)) (x (suc k)) in
-    ap (λ r. plus r (single v)) (number-sum ls n x k) ∙ plus-single (spent (formulas ls n) x k 0) v
+    ap (λ r. plus r (single v)) (number_sum ls n x k) ∙ plus-single (spent (formulas ls n) x k 0) v
 
 -- an amount in kilograms and cents
 abbrev pair : ℤ → ℤ → Row
 pair v w = joined 1 (single v) (single w)
 
-no-pair : none ≡ pair (pos 0) (pos 0)
-no-pair = rw (single-zero, joined-none)
+no_pair : none ≡ pair (pos 0) (pos 0)
+no_pair = rw (single_zero, joined-none)
 
 plus-pair : (a b c d : ℤ) → plus (pair a b) (pair c d) ≡ pair (a +ℤ c) (b +ℤ d)
 plus-pair a b c d = rw (plus-joined, plus-single a c, plus-single b d)
 
 -- kilograms and cents on the legs add up to kilograms and cents
-ranked-sum :
+ranked_sum :
     (ls : List FormulaLeg) (n : ℕ) (rates : List ℕ) (x : ℕ → ℕ) (k : ℕ) →
     spent (charged 1 (formulas ls n) rates) x k ≡ pair (spent (charged 1 (formulas ls n) rates) x k 0) (spent (charged 1 (formulas ls n) rates) x k 1)
 unfolding spent plus single none joined
-ranked-sum ls n rates x zero = no-pair
-ranked-sum ls n rates x (suc k) =
+ranked_sum ls n rates x zero = no_pair
+ranked_sum ls n rates x (suc k) =
     let v = kilograms (at ls (suc k)) (x (suc k)) in
     let w = pos (rate rates (suc k) * x (suc k)) in
     let before = spent (charged 1 (formulas ls n) rates) x k in
-    ap (λ r. plus r (pair v w)) (ranked-sum ls n rates x k) ∙ plus-pair (before 0) (before 1) v w
+    ap (λ r. plus r (pair v w)) (ranked_sum ls n rates x k) ∙ plus-pair (before 0) (before 1) v w
 
 -- in the books of the samples
-pub legs-cost : (q n : ℕ) (x : ℕ → ℕ) → cost-of (legs q n) x ≡ single (cost-of (legs q n) x 0)
-legs-cost q n x = number-sum (replicate n (leg q)) n x n
+pub legs_cost : (q n : ℕ) (x : ℕ → ℕ) → cost_of_timing (legs q n) x ≡ single (cost_of_timing (legs q n) x 0)
+legs_cost q n x = number_sum (replicate n (leg q)) n x n
 
-pub rated-cost : (q n : ℕ) (x : ℕ → ℕ) → cost-of (rated (legs q n)) x ≡ pair (cost-of (rated (legs q n)) x 0) (cost-of (rated (legs q n)) x 1)
-rated-cost q n x = ranked-sum (replicate n (leg q)) n (3 ∷ 2 ∷ []) x n
+pub rated_cost : (q n : ℕ) (x : ℕ → ℕ) → cost_of_timing (rated (legs q n)) x ≡ pair (cost_of_timing (rated (legs q n)) x 0) (cost_of_timing (rated (legs q n)) x 1)
+rated_cost q n x = ranked_sum (replicate n (leg q)) n (3 ∷ 2 ∷ []) x n

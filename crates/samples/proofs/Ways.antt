@@ -2,7 +2,7 @@
 use Rattle.std.proofs.Common.{◌≡◌, ℕ, zero, suc, ◌+◌, ◌-◌, ◌≤◌, min, max, Bool, true, false, ◌||◌, eqb, List, [], ◌∷◌, sym, ◌∙◌, inl, inr, arith}
 use Rattle.std.proofs.lemmas.Bool.{or_cases, eqb-true, cases_eq}
 use Rattle.optimum.specs.Rotation.{Settings, Timing, put, reached, earliest, latest}
-use Rattle.optimum.proofs.Sums.{put_same, put_other, reached-same}
+use Rattle.optimum.proofs.Sums.{put_same, put_other, reached_same}
 use Rattle.states.specs.Costs.{flown}
 use Rattle.samples.specs.Samples.{OneOf}
 use Rattle.samples.proofs.Trials.{every, every-at}
@@ -44,27 +44,27 @@ module _ (n : ℕ) (s : Settings) where
       here =
           let bounds = keeps.bounds (suc k) (omega arith) (omega arith) in
           let window = keeps.windows (suc k) (omega arith) (omega arith) in
-          let now = reached-same z y k same in
+          let now = reached_same z y k same in
           every-at (λ m. ways test (put z (suc k) m) (suc k) d) _ _ (y (suc k)) passed (omega arith) (omega arith)
 
   -- every timing of the n legs passes
-  abbrev pub all-test : ((ℕ → ℕ) → Bool) → Bool
-  all-test test = ways test (λ i. 0) 0 n
+  abbrev pub all_test : ((ℕ → ℕ) → Bool) → Bool
+  all_test test = ways test (λ i. 0) 0 n
 
   pub all_tested :
-      (test : (ℕ → ℕ) → Bool) (y : ℕ → ℕ) → all-test test ≡ true → Timing n s y → (w : ℕ → ℕ) × Alike w y n × (test w ≡ true)
+      (test : (ℕ → ℕ) → Bool) (y : ℕ → ℕ) → all_test test ≡ true → Timing n s y → (w : ℕ → ℕ) × Alike w y n × (test w ≡ true)
   all_tested test y passed keeps = ways-at test y (λ i. 0) 0 n (omega arith) keeps (λ i from to. absurd (omega arith)) passed
 
 module _ (n : ℕ) where
   -- the minutes z are those of one of the timings
-  abbrev pub one-test : (ℕ → ℕ) → List (List ℕ) → Bool
-  one-test z [] = false
-  one-test z (minutes ∷ others) = every (λ i. eqb (z i) (flown minutes i)) 1 n || one-test z others
+  abbrev pub one_test : (ℕ → ℕ) → List (List ℕ) → Bool
+  one_test z [] = false
+  one_test z (minutes ∷ others) = every (λ i. eqb (z i) (flown minutes i)) 1 n || one_test z others
 
-  pub one-tested : (z y : ℕ → ℕ) (timings : List (List ℕ)) → Alike z y n → one-test z timings ≡ true → OneOf n y timings
-  one-tested z y [] same passed = absurd (grind arith)
-  one-tested z y (minutes ∷ others) same passed =
-      elim (or_cases _ (one-test z others) passed) [
+  pub one_tested : (z y : ℕ → ℕ) (timings : List (List ℕ)) → Alike z y n → one_test z timings ≡ true → OneOf n y timings
+  one_tested z y [] same passed = absurd (grind arith)
+  one_tested z y (minutes ∷ others) same passed =
+      elim (or_cases _ (one_test z others) passed) [
         | inl these ↦ inl (λ i from to. sym (same i from to) ∙ eqb-true _ _ (every-at _ 1 n i these from (omega arith)))
-        | inr later ↦ inr (one-tested z y others same later)
+        | inr later ↦ inr (one_tested z y others same later)
       ]

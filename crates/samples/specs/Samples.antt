@@ -2,14 +2,14 @@
 -- Assumes nothing.
 use Rattle.std.specs.Prelude.{◌≡◌, ℕ, ◌-◌, ◌≤◌, ◌⊎◌, List, [], ◌∷◌, replicate, pos, slice_index_or}
 use Rattle.std.specs.List.{AllByRecursion}
-use Rattle.amounts.specs.Orders.{by_number, ranked}
+use Rattle.amounts.specs.Orders.{ByNumber, ByRank}
 use Rattle.amounts.specs.Rows.{Row, joined, single}
 use Rattle.charges.specs.Charges.{charged}
 use Rattle.books.specs.Formula.{formulas}
 use Rattle.books.specs.Meaning.{Meaning}
 use Rattle.books.specs.declared.formula.FormulaLeg.{FormulaLeg}
 use Rattle.optimum.specs.Prices.{PriceRule, worth}
-use Rattle.optimum.specs.Rotation.{Cheapest, cost-of}
+use Rattle.optimum.specs.Rotation.{Cheapest, cost_of_timing}
 use Rattle.optimum.specs.declared.Price.{Price}
 use Rattle.states.specs.Costs.{flown}
 use Rattle.register.specs.Faults.{row}
@@ -42,12 +42,12 @@ abbrev pub kilograms : ℕ → Row
 kilograms v = single (pos v)
 
 -- so many kilograms, and so many cents behind them
-abbrev pub kilograms-cents : ℕ → ℕ → Row
-kilograms-cents v w = joined 1 (single (pos v)) (single (pos w))
+abbrev pub kilograms_cents : ℕ → ℕ → Row
+kilograms_cents v w = joined 1 (single (pos v)) (single (pos w))
 
 -- kilograms decide, and cents decide between equals
-abbrev pub kilograms-first : Row → Row → Type 0
-kilograms-first = ranked 1 by_number by_number
+abbrev pub KilogramsFirst : Row → Row → Type 0
+KilogramsFirst = ByRank 1 ByNumber ByNumber
 
 -- ---- what stands
 
@@ -65,7 +65,7 @@ OneOf n y (minutes ∷ others) = ((i : ℕ) → 1 ≤ i → i ≤ n → y i ≡ 
 pub record Granted (b : Meaning) (le : Row → Row → Type 0) (r : Register) (call : Call) (timings : List (List ℕ)) (cost : Row) : Type 0 where
   pub answered : (areas : Areas) → (Cramped b r call areas → ⊥) → Answered b le r call areas (granted cost) (left b r call)
   pub cheapest : AllByRecursion (λ minutes. Cheapest b le (after b r call) (flown minutes)) timings
-  pub costs : AllByRecursion (λ minutes. cost-of b (flown minutes) ≡ cost) timings
+  pub costs : AllByRecursion (λ minutes. cost_of_timing b (flown minutes) ≡ cost) timings
   pub only : (y : ℕ → ℕ) → Cheapest b le (after b r call) y → OneOf b.legs y timings
 
 -- the register r, lent long enough areas, refuses the call with 16 at this leg and stays as it was
@@ -87,32 +87,32 @@ two = left (G 2) blank (Open 120)
 abbrev pub two-shut : Register
 two-shut = left (G 2) two (Window 1 50 61)
 
-abbrev pub two-longer : Register
-two-longer = left (G 2) two-shut (Total 125)
+abbrev pub two_longer : Register
+two_longer = left (G 2) two-shut (Total 125)
 
 -- their prices: the step from 60 to 61 minutes on leg 1, and that from 63 to 64 on leg 2
-abbrev pub two-prices : List Price
-two-prices = record { leg = 1; minute = 60 } ∷ (record { leg = 2; minute = 63 } ∷ [])
+abbrev pub two_prices : List Price
+two_prices = record { leg = 1; minute = 60 } ∷ (record { leg = 2; minute = 63 } ∷ [])
 
 -- the samples
 pub record Samples : Type 0 where
   -- one leg in 60 minutes; in 71, more than it can be flown in, there is no timing
-  pub one-leg : Granted (G 1) by_number blank (Open 60) ((60 ∷ []) ∷ []) (kilograms 0)
-  pub one-leg-late : Impossible (G 1) by_number blank (Open 71) 1
+  pub one_leg : Granted (G 1) ByNumber blank (Open 60) ((60 ∷ []) ∷ []) (kilograms 0)
+  pub one_leg_late : Impossible (G 1) ByNumber blank (Open 71) 1
   -- three legs in 174 minutes, and then a window after the second; where it shuts too early, leg 3 cannot make up for it
-  pub three-legs : Granted (G 3) by_number blank (Open 174) ((58 ∷ 58 ∷ 58 ∷ []) ∷ []) (kilograms 12)
-  pub shut-at-105 : Granted (G 3) by_number three (Window 2 100 105) ((52 ∷ 53 ∷ 69 ∷ []) ∷ (53 ∷ 52 ∷ 69 ∷ []) ∷ []) (kilograms 194)
-  pub shut-at-104 : Granted (G 3) by_number three (Window 2 100 104) ((52 ∷ 52 ∷ 70 ∷ []) ∷ []) (kilograms 228)
-  pub shut-at-103 : Impossible (G 3) by_number three (Window 2 100 103) 3
+  pub three-legs : Granted (G 3) ByNumber blank (Open 174) ((58 ∷ 58 ∷ 58 ∷ []) ∷ []) (kilograms 12)
+  pub shut_at_105 : Granted (G 3) ByNumber three (Window 2 100 105) ((52 ∷ 53 ∷ 69 ∷ []) ∷ (53 ∷ 52 ∷ 69 ∷ []) ∷ []) (kilograms 194)
+  pub shut_at_104 : Granted (G 3) ByNumber three (Window 2 100 104) ((52 ∷ 52 ∷ 70 ∷ []) ∷ []) (kilograms 228)
+  pub shut_at_103 : Impossible (G 3) ByNumber three (Window 2 100 103) 3
   -- two legs, then a window, and then another total: the timing, and the prices 1 and 7, which keep the rule
-  pub two-legs : Granted (G 2) by_number blank (Open 120) ((60 ∷ 60 ∷ []) ∷ []) (kilograms 0)
-  pub shut-at-61 : Granted (G 2) by_number two (Window 1 50 61) ((60 ∷ 60 ∷ []) ∷ []) (kilograms 0)
-  pub longer : Granted (G 2) by_number two-shut (Total 125) ((61 ∷ 64 ∷ []) ∷ []) (kilograms 17)
-  pub price-1 : worth (G 2) (priced two-prices 1) ≡ kilograms 1
-  pub price-7 : worth (G 2) (priced two-prices 2) ≡ kilograms 7
-  pub prices : PriceRule (G 2) by_number (after (G 2) two-shut (Total 125)) (flown (61 ∷ 64 ∷ [])) (priced two-prices)
+  pub two-legs : Granted (G 2) ByNumber blank (Open 120) ((60 ∷ 60 ∷ []) ∷ []) (kilograms 0)
+  pub shut_at_61 : Granted (G 2) ByNumber two (Window 1 50 61) ((60 ∷ 60 ∷ []) ∷ []) (kilograms 0)
+  pub longer : Granted (G 2) ByNumber two-shut (Total 125) ((61 ∷ 64 ∷ []) ∷ []) (kilograms 17)
+  pub price_1 : worth (G 2) (priced two_prices 1) ≡ kilograms 1
+  pub price_7 : worth (G 2) (priced two_prices 2) ≡ kilograms 7
+  pub prices : PriceRule (G 2) ByNumber (after (G 2) two-shut (Total 125)) (flown (61 ∷ 64 ∷ [])) (priced two_prices)
   -- then a window that leg 1 cannot meet: what stood, with the timing 61 64, stands still
-  pub too-early : Impossible (G 2) by_number two-longer (Window 1 10 20) 1
+  pub too_early : Impossible (G 2) ByNumber two_longer (Window 1 10 20) 1
   -- two legs with rates: cents decide where kilograms do not, and only there
-  pub cents-alone : Granted (rated (legs 0 2)) kilograms-first blank (Open 120) ((50 ∷ 70 ∷ []) ∷ []) (kilograms-cents 0 290)
-  pub cents-second : Granted (rated (G 2)) kilograms-first blank (Open 120) ((60 ∷ 60 ∷ []) ∷ []) (kilograms-cents 0 300)
+  pub cents_alone : Granted (rated (legs 0 2)) KilogramsFirst blank (Open 120) ((50 ∷ 70 ∷ []) ∷ []) (kilograms_cents 0 290)
+  pub cents_second : Granted (rated (G 2)) KilogramsFirst blank (Open 120) ((60 ∷ 60 ∷ []) ∷ []) (kilograms_cents 0 300)

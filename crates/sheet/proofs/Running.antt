@@ -3,9 +3,9 @@ use Rattle.std.proofs.Common.{◌≡◌, ℕ, ◌+◌, ◌-◌, ◌<◌, ◌≤�
 use Rattle.std.proofs.lemmas.List.{length-take, take-take, take_all, take_more_set, drop-drop, drop-set-lt, map_more, map_push}
 use Rattle.amounts.specs.Rows.{Row}
 use Rattle.amounts.specs.Orders.{Order}
-use Rattle.board.proofs.Boards.{broken-one, broken-clear}
+use Rattle.board.proofs.Boards.{broken_one, broken_clear}
 use Rattle.books.specs.Meaning.{Meaning}
-use Rattle.optimum.proofs.Certificate.{same-cost}
+use Rattle.optimum.proofs.Certificate.{same_cost}
 use Rattle.register.specs.Register.{Register, blank, Areas, board, Reply, refused, granted, closed, Answered, Run, stop, step}
 use Rattle.register.specs.Replies.{reply}
 use Rattle.sheet.specs.Runs.{told_of, fed, OneAnswer}
@@ -16,53 +16,53 @@ use Rattle.register.specs.declared.fault.SheetFault.{SheetFault}
 use Rattle.states.specs.declared.state.State.{State}
 
 -- one call more at the end
-pub run-push : {b : Meaning} {le : Row → Row → Type 0} {r r' r'' : Register} {calls : List (Call × Areas)} {replies : List Reply} {call : Call} {areas : Areas} {reply : Reply} → Run b le r calls replies r' → Answered b le r' call areas reply r'' → Run b le r (calls ++ (call, areas) ∷ []) (replies ++ reply ∷ []) r''
-run-push stop last = step last stop
-run-push (step first rest) last = step first (run-push rest last)
+pub run_push : {b : Meaning} {le : Row → Row → Type 0} {r r' r'' : Register} {calls : List (Call × Areas)} {replies : List Reply} {call : Call} {areas : Areas} {reply : Reply} → Run b le r calls replies r' → Answered b le r' call areas reply r'' → Run b le r (calls ++ (call, areas) ∷ []) (replies ++ reply ∷ []) r''
+run_push stop last = step last stop
+run_push (step first rest) last = step first (run_push rest last)
 
 -- ---- the answer is one
 
 module _ {places : ℕ} {le : Row → Row → Type 0} (order : Order places le) (b : Meaning) where
   pub one_answer : OneAnswer b le places
-  one_answer r r' r'' call areas (refused p) (refused q) one other = (broken-one (board b r call areas) p q one.answer.0 other.answer.0, one.answer.1 ∙ sym other.answer.1)
-  one_answer r r' r'' call areas (refused p) (granted cost) one other = absurd (broken-clear (board b r call areas) p one.answer.0 other.answer.0)
-  one_answer r r' r'' call areas (refused p) closed one other = absurd (broken-clear (board b r call areas) p one.answer.0 other.answer.0)
-  one_answer r r' r'' call areas (granted cost) (refused q) one other = absurd (broken-clear (board b r call areas) q other.answer.0 one.answer.0)
+  one_answer r r' r'' call areas (refused p) (refused q) one other = (broken_one (board b r call areas) p q one.answer.0 other.answer.0, one.answer.1 ∙ sym other.answer.1)
+  one_answer r r' r'' call areas (refused p) (granted cost) one other = absurd (broken_clear (board b r call areas) p one.answer.0 other.answer.0)
+  one_answer r r' r'' call areas (refused p) closed one other = absurd (broken_clear (board b r call areas) p one.answer.0 other.answer.0)
+  one_answer r r' r'' call areas (granted cost) (refused q) one other = absurd (broken_clear (board b r call areas) q other.answer.0 one.answer.0)
   one_answer r r' r'' call areas (granted cost) (granted cost') one other =
       let mine = one.answer.3 in
       let yours = other.answer.3 in
-      (λ k within. ap (λ row. row k) mine.2 ∙ same-cost order mine.1 yours.1 k within ∙ sym (ap (λ row. row k) yours.2), one.answer.2 ∙ sym other.answer.2)
+      (λ k within. ap (λ row. row k) mine.2 ∙ same_cost order mine.1 yours.1 k within ∙ sym (ap (λ row. row k) yours.2), one.answer.2 ∙ sym other.answer.2)
   one_answer r r' r'' call areas (granted cost) closed one other = absurd (other.answer.1 one.answer.1)
-  one_answer r r' r'' call areas closed (refused q) one other = absurd (broken-clear (board b r call areas) q other.answer.0 one.answer.0)
+  one_answer r r' r'' call areas closed (refused q) one other = absurd (broken_clear (board b r call areas) q other.answer.0 one.answer.0)
   one_answer r r' r'' call areas closed (granted cost) one other = absurd (one.answer.1 other.answer.1)
   one_answer r r' r'' call areas closed closed one other = (tt, one.answer.2 ∙ sym other.answer.2)
 
 -- ---- one call more of a list
 
 -- as many places as were asked for, as far as the area reaches
-pub cut-length : {A : Type 0} (n m size : ℕ) (xs : List A) → m ≡ min n (length xs) → length xs ≡ size → length (take (m - 0) xs) ≡ min n size
-cut-length n m size xs cut same = simp length-take (omega arith)
+pub cut_length : {A : Type 0} (n m size : ℕ) (xs : List A) → m ≡ min n (length xs) → length xs ≡ size → length (take (m - 0) xs) ≡ min n size
+cut_length n m size xs cut same = simp length-take (omega arith)
 
 -- ---- places for the answers
 
 module _ {X : Type 0} where
   -- as far as there are places: the shorter of the two lengths
-  pub take-reach : (k n : ℕ) (xs : List X) → k ≡ min (length xs) n → take k xs ≡ take n xs
-  take-reach k n xs reach =
+  pub take_reach : (k n : ℕ) (xs : List X) → k ≡ min (length xs) n → take k xs ≡ take n xs
+  take_reach k n xs reach =
       let long = length-take n xs in
       sym (take-take k n xs (omega arith)) ∙ take_all k (take n xs) (omega arith)
 
-  pub drop-on : (k n : ℕ) (xs ys : List X) → k ≤ n → drop k xs ≡ drop k ys → drop n xs ≡ drop n ys
-  drop-on k n xs ys within same =
+  pub drop_on : (k n : ℕ) (xs ys : List X) → k ≤ n → drop k xs ≡ drop k ys → drop n xs ≡ drop n ys
+  drop_on k n xs ys within same =
       let on : k + (n - k) ≡ n = omega arith in
       subst (λ m. drop m xs ≡ drop m ys) on (sym (drop-drop (n - k) k xs) ∙ ap (drop (n - k)) same ∙ drop-drop (n - k) k ys)
 
   -- one answer more
-  pub answers-more : (k : ℕ) (xs xs' : List X) (x : X) → xs' ≡ set xs k x → k < length xs → take (k + 1) xs' ≡ take k xs ++ x ∷ []
-  answers-more k xs xs' x set_here within = ap (take (k + 1)) set_here ∙ take_more_set xs k x within
+  pub answers_more : (k : ℕ) (xs xs' : List X) (x : X) → xs' ≡ set xs k x → k < length xs → take (k + 1) xs' ≡ take k xs ++ x ∷ []
+  answers_more k xs xs' x set_here within = ap (take (k + 1)) set_here ∙ take_more_set xs k x within
 
-  pub rest-stays : (k : ℕ) (xs xs' ys : List X) (x : X) → xs' ≡ set xs k x → drop k xs ≡ drop k ys → drop (k + 1) xs' ≡ drop (k + 1) ys
-  rest-stays k xs xs' ys x set_here same = ap (drop (k + 1)) set_here ∙ drop-set-lt (k + 1) xs k x (omega arith) ∙ drop-on k (k + 1) xs ys (omega arith) same
+  pub rest_stays : (k : ℕ) (xs xs' ys : List X) (x : X) → xs' ≡ set xs k x → drop k xs ≡ drop k ys → drop (k + 1) xs' ≡ drop (k + 1) ys
+  rest_stays k xs xs' ys x set_here same = ap (drop (k + 1)) set_here ∙ drop-set-lt (k + 1) xs k x (omega arith) ∙ drop_on k (k + 1) xs ys (omega arith) same
 
 -- ---- a turn of the loop over the calls
 
@@ -72,10 +72,10 @@ module _ {A : Type 0} {le : Row → Row → Type 0} (b : Meaning) (row : A → R
       subst₂ (λ fs rs. Run b le blank fs rs r')
       (ap (λ q. fed room (take i calls) ++ ((get_or calls i d).call, q) ∷ []) lent ∙ sym (map_more (told_of room) calls i d within))
       (sym (map_push (reply row) items x) ∙ ap (map (reply row)) (sym pushed))
-      (run-push before answered)
+      (run_push before answered)
 
 -- on a sheet over the book k that is the book k₀
-pub run-turn : {K A : Type 0} (meaning : K → Meaning) {le : Row → Row → Type 0} (row : A → Row) (room : Areas) (calls : List Asked) (i : ℕ) (d : Asked) {k k₀ k' : K} {old new : State} (items items' : List (Result (Option A) SheetFault)) (x : Result (Option A) SheetFault) {areas : Areas} → k ≡ k₀ → k' ≡ k → i < length calls → Sound (meaning k₀) le old → Run (meaning k₀) le blank (fed room (take i calls)) (map (reply row) items) (reading old) → Carried (meaning k) le old (get_or calls i d).call areas (reply row x) new → areas ≡ (told_of room (get_or calls i d)).1 → items' ≡ items ++ x ∷ [] → (k' ≡ k₀) × Sound (meaning k₀) le new × Run (meaning k₀) le blank (fed room (take (i + 1) calls)) (map (reply row) items') (reading new)
-run-turn meaning {le} row room calls i d {k} {k₀} {k'} {old} {new} items items' x {areas} same kept within sound before carried lent pushed =
+pub run_turn : {K A : Type 0} (meaning : K → Meaning) {le : Row → Row → Type 0} (row : A → Row) (room : Areas) (calls : List Asked) (i : ℕ) (d : Asked) {k k₀ k' : K} {old new : State} (items items' : List (Result (Option A) SheetFault)) (x : Result (Option A) SheetFault) {areas : Areas} → k ≡ k₀ → k' ≡ k → i < length calls → Sound (meaning k₀) le old → Run (meaning k₀) le blank (fed room (take i calls)) (map (reply row) items) (reading old) → Carried (meaning k) le old (get_or calls i d).call areas (reply row x) new → areas ≡ (told_of room (get_or calls i d)).1 → items' ≡ items ++ x ∷ [] → (k' ≡ k₀) × Sound (meaning k₀) le new × Run (meaning k₀) le blank (fed room (take (i + 1) calls)) (map (reply row) items') (reading new)
+run_turn meaning {le} row room calls i d {k} {k₀} {k'} {old} {new} items items' x {areas} same kept within sound before carried lent pushed =
     let turn = subst (λ h. Carried (meaning h) le old (get_or calls i d).call areas (reply row x) new) same carried in
     (kept ∙ same, turn.sound sound, run_more (meaning k₀) row room calls i d items items' x areas (reading old) (reading new) within before (turn.answered sound) lent pushed)

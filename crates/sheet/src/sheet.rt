@@ -1,11 +1,11 @@
 // The sheet of a rotation over a book: its calls and its questions.
 ghost use Rattle.std.specs.Prelude.{◌≡◌, ◌<◌, IfErr, MatchOption, OnErr, ◌≢◌};
 ghost use Rattle.books.specs.Meaning.{IsLeg};
-ghost use Rattle.optimum.specs.Rotation.{cost-of};
+ghost use Rattle.optimum.specs.Rotation.{cost_of_timing};
 ghost use Rattle.register.specs.Faults.{told};
 ghost use Rattle.register.specs.Register.{Areas, Stands, Times, blank};
 ghost use Rattle.register.specs.Replies.{timed, shut};
-ghost use Rattle.states.specs.States.{reading, minutes-of, prices-of, Sound, lent, Carried};
+ghost use Rattle.states.specs.States.{reading, minutes_of, prices_of, Sound, lent, Carried};
 ghost use Rattle.register.specs.declared.call.Call.TheVariants.{Open, Bounds, Window, Lift, Total, Close};
 
 use books::Book;
@@ -118,7 +118,7 @@ impl<B: Book> Sheet<B> {
 
     // The minutes of a leg; absent on a blank sheet or for a leg that is not there.
     pub fn minutes(&self, leg: u8) -> Option<u16>
-        ensures { MatchOption result (Stands (reading self.now.state) × IsLeg (meaning self.now.book) leg → ⊥) (λ m. Stands (reading self.now.state) × IsLeg (meaning self.now.book) leg × (m ≡ minutes-of self.now.state leg)) }
+        ensures { MatchOption result (Stands (reading self.now.state) × IsLeg (meaning self.now.book) leg → ⊥) (λ m. Stands (reading self.now.state) × IsLeg (meaning self.now.book) leg × (m ≡ minutes_of self.now.state leg)) }
     {
         let Some(place) = self.place(leg) else {
             return None;
@@ -128,7 +128,7 @@ impl<B: Book> Sheet<B> {
 
     // The price of a leg, as the leg and minute that name it; absent on a blank sheet or for a leg that is not there.
     pub fn price(&self, leg: u8) -> Option<Price>
-        ensures { MatchOption result (Stands (reading self.now.state) × IsLeg (meaning self.now.book) leg → ⊥) (λ p. Stands (reading self.now.state) × IsLeg (meaning self.now.book) leg × (p ≡ prices-of self.now.state leg)) }
+        ensures { MatchOption result (Stands (reading self.now.state) × IsLeg (meaning self.now.book) leg → ⊥) (λ p. Stands (reading self.now.state) × IsLeg (meaning self.now.book) leg × (p ≡ prices_of self.now.state leg)) }
     {
         let Some(place) = self.place(leg) else {
             return None;
@@ -138,7 +138,7 @@ impl<B: Book> Sheet<B> {
 
     // The cost of the timing that stands; absent on a blank sheet.
     pub fn cost(&self) -> Option<B::Cost>
-        ensures { Sound (meaning self.now.book) B.Cost.Amount.le self.now.state → MatchOption result (Stands (reading self.now.state) → ⊥) (λ a. Stands (reading self.now.state) × (B.Cost.Amount.row a ≡ cost-of (meaning self.now.book) (minutes-of self.now.state))) }
+        ensures { Sound (meaning self.now.book) B.Cost.Amount.le self.now.state → MatchOption result (Stands (reading self.now.state) → ⊥) (λ a. Stands (reading self.now.state) × (B.Cost.Amount.row a ≡ cost_of_timing (meaning self.now.book) (minutes_of self.now.state))) }
     {
         let Some(cost) = self.state.cost(&self.book) else {
             return None;

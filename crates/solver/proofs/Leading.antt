@@ -8,13 +8,13 @@ use Rattle.solver.specs.Steps.{Before, Chosen, NoneOpen, Leads}
 use Rattle.solver.specs.declared.steps.Move.{Move}
 use Rattle.solver.specs.declared.steps.Move.TheVariants.{Raise, Lower}
 
-before-refl : {places : ℕ} {le : Row → Row → Type 0} → Order places le → (way : Move) (x : Row) → Before way le x x
-before-refl order Raise x = le_refl order x
-before-refl order Lower x = le_refl order x
+before_refl : {places : ℕ} {le : Row → Row → Type 0} → Order places le → (way : Move) (x : Row) → Before way le x x
+before_refl order Raise x = le_refl order x
+before_refl order Lower x = le_refl order x
 
-before-trans : {places : ℕ} {le : Row → Row → Type 0} → Order places le → (way : Move) (x y z : Row) → Before way le x y → Before way le y z → Before way le x z
-before-trans order Raise x y z p q = order.transitive x y z p q
-before-trans order Lower x y z p q = order.transitive z y x q p
+before_trans : {places : ℕ} {le : Row → Row → Type 0} → Order places le → (way : Move) (x y z : Row) → Before way le x y → Before way le y z → Before way le x z
+before_trans order Raise x y z p q = order.transitive x y z p q
+before_trans order Lower x y z p q = order.transitive z y x q p
 
 -- what holds of the legs 1 to k, and of leg k + 1
 pub each_more : (P : ℕ → Type 0) (k : ℕ) → ((j : ℕ) → 1 ≤ j → j ≤ k → P j) → P (k + 1) → (j : ℕ) → 1 ≤ j → j ≤ k + 1 → P j
@@ -26,15 +26,15 @@ Found before row rows l u k best = MatchOption best (NoneOpen l u k) (λ found. 
 
 module _ {A : Type 0} {places : ℕ} {le : Row → Row → Type 0} (order : Order places le) (way : Move) (row : A → Row) (rows : ℕ → Row) (l u : ℕ → ℕ) (k : ℕ) where
   -- one leg more that is not open
-  pub found-shut : (best : Option (ℕ × A)) → Found (Before way le) row rows l u k best → u (k + 1) ≤ l (k + 1) → Found (Before way le) row rows l u (k + 1) best
-  found-shut None none shut = each_more (λ j. l j < u j → ⊥) k none (λ free. omega arith)
-  found-shut (Some best) found shut =
+  pub found_shut : (best : Option (ℕ × A)) → Found (Before way le) row rows l u k best → u (k + 1) ≤ l (k + 1) → Found (Before way le) row rows l u (k + 1) best
+  found_shut None none shut = each_more (λ j. l j < u j → ⊥) k none (λ free. omega arith)
+  found_shut (Some best) found shut =
       let led = found.1 in
       (found.0, (led.0, omega arith, led.2, each_more (λ j. l j < u j → Before way le (rows best.0) (rows j)) k led.3 (λ free. absurd (omega arith))))
 
   -- one leg more that is open: r is the better of the two
-  pub found-open : (best : Option (ℕ × A)) (a : A) (r : ℕ × A) → Found (Before way le) row rows l u k best → l (k + 1) < u (k + 1) → row a ≡ rows (k + 1) → Chosen (Before way le) row best (k + 1, a) r → Found (Before way le) row rows l u (k + 1) (Some r)
-  found-open None a r none free own chosen =
+  pub found_open : (best : Option (ℕ × A)) (a : A) (r : ℕ × A) → Found (Before way le) row rows l u k best → l (k + 1) < u (k + 1) → row a ≡ rows (k + 1) → Chosen (Before way le) row best (k + 1, a) r → Found (Before way le) row rows l u (k + 1) (Some r)
+  found_open None a r none free own chosen =
       subst (λ f. Found (Before way le) row rows l u (k + 1) (Some f)) (sym chosen) (
         own,
         (
@@ -43,10 +43,10 @@ module _ {A : Type 0} {places : ℕ} {le : Row → Row → Type 0} (order : Orde
           free,
           each_more (λ j. l j < u j → Before way le (rows (k + 1)) (rows j)) k
               (λ j low high free'. absurd (none j low high free'))
-              (λ _. before-refl order way (rows (k + 1))),
+              (λ _. before_refl order way (rows (k + 1))),
         ),
       )
-  found-open (Some old) a r found free own chosen =
+  found_open (Some old) a r found free own chosen =
       let led = found.1 in
       ⊎_elim
       (λ new.
@@ -57,8 +57,8 @@ module _ {A : Type 0} {places : ℕ} {le : Row → Row → Type 0} (order : Orde
           omega arith,
           free,
           each_more (λ j. l j < u j → Before way le (rows (k + 1)) (rows j)) k
-              (λ j low high free'. before-trans order way _ _ _ (subst₂ (Before way le) own found.0 new.1) (led.3 j low high free'))
-              (λ _. before-refl order way (rows (k + 1))),
+              (λ j low high free'. before_trans order way _ _ _ (subst₂ (Before way le) own found.0 new.1) (led.3 j low high free'))
+              (λ _. before_refl order way (rows (k + 1))),
         ),
       ))
       (λ kept.

@@ -9,21 +9,21 @@ use Rattle.solver.specs.declared.steps.Move.{Move}
 use Rattle.solver.specs.declared.steps.Move.TheVariants.{Raise, Lower}
 
 -- the book has the steps of every open leg of a box
-pub box-steps : {le : Row → Row → Type 0} {b : Meaning} {s : Settings} {l u : ℕ → ℕ} {k : ℕ} → Fits b s → Boxed b le s l u k → (way : Move) (m : ℕ) → m ≤ b.legs → Steps b way l u m
-box-steps {b} fits boxed Raise m few j low high free =
+pub box_steps : {le : Row → Row → Type 0} {b : Meaning} {s : Settings} {l u : ℕ → ℕ} {k : ℕ} → Fits b s → Boxed b le s l u k → (way : Move) (m : ℕ) → m ≤ b.legs → Steps b way l u m
+box_steps {b} fits boxed Raise m few j low high free =
     let leg : IsLeg b j = (low, omega arith) in
     let inside = boxed.inside j leg in
     let ends = fits j leg in
     (leg, omega arith, omega arith)
-box-steps {b} fits boxed Lower m few j low high free =
+box_steps {b} fits boxed Lower m few j low high free =
     let leg : IsLeg b j = (low, omega arith) in
     let inside = boxed.inside j leg in
     let ends = fits j leg in
     (leg, omega arith, omega arith)
 
 -- the book has the next step of every leg of a timing that can be longer
-pub timing-steps : (b : Meaning) (s : Settings) (x : ℕ → ℕ) → Fits b s → Timing b.legs s x → (m : ℕ) → m ≤ b.legs → Steps b Raise x s.high m
-timing-steps b s x fits timing m few j low high free =
+pub timing_steps : (b : Meaning) (s : Settings) (x : ℕ → ℕ) → Fits b s → Timing b.legs s x → (m : ℕ) → m ≤ b.legs → Steps b Raise x s.high m
+timing_steps b s x fits timing m few j low high free =
     let leg : IsLeg b j = (low, omega arith) in
     let inside = timing.bounds j low (omega arith) in
     let ends = fits j leg in
@@ -37,14 +37,14 @@ hand_moved row b way l u l' u' k i others xs hand j low high other within free d
 
 -- where leg i is still open after its move, the book has the step at its edge
 module _ {le : Row → Row → Type 0} {b : Meaning} {s : Settings} {l u : ℕ → ℕ} {k : ℕ} (fits : Fits b s) (boxed : Boxed b le s l u k) (i : ℕ) (leg : IsLeg b i) where
-  pub step-raised : (v : ℕ) → v ≡ l i + 1 → v < u i → Stepped b i v
-  step-raised v is free =
+  pub step_raised : (v : ℕ) → v ≡ l i + 1 → v < u i → Stepped b i v
+  step_raised v is free =
       let inside = boxed.inside i leg in
       let ends = fits i leg in
       (leg, omega arith, omega arith)
 
-  pub step-lowered : (v : ℕ) → v ≡ u i - 1 → l i < v → Stepped b i (v - 1)
-  step-lowered v is free =
+  pub step_lowered : (v : ℕ) → v ≡ u i - 1 → l i < v → Stepped b i (v - 1)
+  step_lowered v is free =
       let inside = boxed.inside i leg in
       let ends = fits i leg in
       (leg, omega arith, omega arith)

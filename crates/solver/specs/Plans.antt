@@ -11,8 +11,8 @@ abbrev pub at : List ℕ → ℕ → ℕ
 at xs i = slice_index xs i
 
 -- the price of leg i in an array; beyond it the price zero
-abbrev pub price-at : List Price → ℕ → Price
-price-at ps i = slice_index_or ps i (record { leg = 0; minute = 0 })
+abbrev pub price_at : List Price → ℕ → Price
+price_at ps i = slice_index_or ps i (record { leg = 0; minute = 0 })
 
 -- the settings that a plan holds; beyond its arrays, where no leg or stop is, bounds are 0 and windows 0 to 4,095
 abbrev pub settings : Plan → Settings

@@ -7,7 +7,7 @@ use Rattle.optimum.specs.declared.Price.{Price}
 use Rattle.optimum.specs.Prices.{Named, worth}
 use Rattle.optimum.specs.Rotation.{Settings, reached, earliest, latest, Cheapest}
 use Rattle.optimum.specs.Method.{Fits, Safe}
-use Rattle.solver.specs.Plans.{at, price-at, settings}
+use Rattle.solver.specs.Plans.{at, price_at, settings}
 use Rattle.solver.specs.declared.plan.Plan.{Plan}
 
 -- minutes that are a cheapest timing of a plan whose bounds lie in the book's ends
@@ -29,12 +29,12 @@ pub record Fair (b : Meaning) (le : Row → Row → Type 0) (s : Settings) (x : 
 
 -- every leg of 1 to k has such a price
 abbrev pub FairUp : Meaning → (Row → Row → Type 0) → Settings → (ℕ → ℕ) → ℕ → List Price → Type 0
-FairUp b le s x k ps = (i : ℕ) → 1 ≤ i → i ≤ k → Fair b le s x i (price-at ps i)
+FairUp b le s x k ps = (i : ℕ) → 1 ≤ i → i ≤ k → Fair b le s x i (price_at ps i)
 
 -- prices do not fall over a stop k that is reached after its window opens
 abbrev pub Rises : Meaning → (Row → Row → Type 0) → Settings → (ℕ → ℕ) → List Price → ℕ → Type 0
-Rises b le s x ps k = earliest b.legs s k < reached x k → le (worth b (price-at ps k)) (worth b (price-at ps (k + 1)))
+Rises b le s x ps k = earliest b.legs s k < reached x k → le (worth b (price_at ps k)) (worth b (price_at ps (k + 1)))
 
 -- prices do not rise over a stop k that is reached before its window shuts
 abbrev pub Falls : Meaning → (Row → Row → Type 0) → Settings → (ℕ → ℕ) → List Price → ℕ → Type 0
-Falls b le s x ps k = reached x k < latest b.legs s k → le (worth b (price-at ps (k + 1))) (worth b (price-at ps k))
+Falls b le s x ps k = reached x k < latest b.legs s k → le (worth b (price_at ps (k + 1))) (worth b (price_at ps k))

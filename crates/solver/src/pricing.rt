@@ -2,7 +2,7 @@
 ghost use Rattle.std.specs.Prelude.{◌≡◌, ℕ, ◌+◌, ◌<◌, ◌≤◌, ◌⊎◌, length};
 ghost use Rattle.books.specs.Meaning.{IsLeg};
 ghost use Rattle.optimum.specs.Prices.{Named, PriceRule, worth};
-ghost use Rattle.solver.specs.Plans.{at, settings, price-at};
+ghost use Rattle.solver.specs.Plans.{at, settings, price_at};
 ghost use Rattle.solver.specs.Pricing.{Timed, Floor, Fair, FairUp, Rises, Falls};
 
 use crate::narrow::sum;
@@ -125,7 +125,7 @@ pub(crate) fn prices<B: Book>(
     steps: &mut [B::Cost],
 ) -> [Price; 65]
     requires { Timed (meaning book.now) B.Cost.Amount.le plan.now minutes.now }
-    ensures { PriceRule (meaning book.now) B.Cost.Amount.le (settings plan.now) (at minutes.now) (price-at result) }
+    ensures { PriceRule (meaning book.now) B.Cost.Amount.le (settings plan.now) (at minutes.now) (price_at result) }
 {
     book.keeps_laws();
     let base = base(book, plan, minutes, steps);

@@ -3,38 +3,38 @@ use Rattle.std.proofs.Common.{◌≡◌, ℕ, refl, inl}
 use Rattle.amounts.specs.Rows.{Row}
 use Rattle.board.specs.Rules.{Clear, Broken}
 use Rattle.board.specs.declared.Refusal.{Refusal}
-use Rattle.board.proofs.Boards.{broken-front, broken-back, clear_both}
+use Rattle.board.proofs.Boards.{broken_front, broken_back, clear_both}
 use Rattle.books.specs.Meaning.{Meaning}
-use Rattle.optimum.specs.Rotation.{Cheapest, cost-of}
-use Rattle.optimum.proofs.Reach.{keeps-less}
+use Rattle.optimum.specs.Rotation.{Cheapest, cost_of_timing}
+use Rattle.optimum.proofs.Reach.{keeps_less}
 use Rattle.solver.specs.Plans.{First}
 use Rattle.register.specs.Faults.{row}
-use Rattle.register.specs.Register.{Register, standing, Areas, after, Times, entry-rows, timing-rows, refused, granted, Answered}
+use Rattle.register.specs.Register.{Register, standing, Areas, after, Times, entry_rows, timing_rows, refused, granted, Answered}
 use Rattle.register.specs.declared.call.Call.{Call}
 
 module _ {le : Row → Row → Type 0} (b : Meaning) (r : Register) (call : Call) (areas : Areas) where
   -- a row that is looked at first applies
-  pub answered-entry : (why : Refusal) → Broken (entry-rows b r call areas) why → Answered b le r call areas (refused why) r
-  answered-entry why broken = record { answer = (broken-front (entry-rows b r call areas) (timing-rows b r call) why broken, refl) }
+  pub answered_entry : (why : Refusal) → Broken (entry_rows b r call areas) why → Answered b le r call areas (refused why) r
+  answered_entry why broken = record { answer = (broken_front (entry_rows b r call areas) (timing_rows b r call) why broken, refl) }
 
   -- there is no timing
-  pub answered-stuck : (k : ℕ) → Clear (entry-rows b r call areas) → Times call → First b.legs (after b r call) k → Answered b le r call areas (refused (row 16 k)) r
-  answered-stuck k clear times first =
+  pub answered_stuck : (k : ℕ) → Clear (entry_rows b r call areas) → Times call → First b.legs (after b r call) k → Answered b le r call areas (refused (row 16 k)) r
+  answered_stuck k clear times first =
       record {
         answer = (
-          broken-back (entry-rows b r call areas) (timing-rows b r call) (row 16 k) clear
+          broken_back (entry_rows b r call areas) (timing_rows b r call) (row 16 k) clear
               (inl (k, (times, first.leg, first.stuck), (λ j less timeless. first.before j less timeless.2), refl)),
           refl,
         );
       }
 
   -- a cheapest timing stands
-  pub answered-granted : (r' : Register) (x : ℕ → ℕ) (cost : Row) → Clear (entry-rows b r call areas) → Times call → Cheapest b le (after b r call) x → cost ≡ cost-of b x → r' ≡ standing (after b r call) → Answered b le r call areas (granted cost) r'
-  answered-granted r' x cost clear times cheapest sum stands =
+  pub answered_granted : (r' : Register) (x : ℕ → ℕ) (cost : Row) → Clear (entry_rows b r call areas) → Times call → Cheapest b le (after b r call) x → cost ≡ cost_of_timing b x → r' ≡ standing (after b r call) → Answered b le r call areas (granted cost) r'
+  answered_granted r' x cost clear times cheapest sum stands =
       record {
         answer = (
-          clear_both (entry-rows b r call areas) (timing-rows b r call) clear
-              ((λ k timeless. timeless.2 x (keeps-less b.legs (after b r call) x k b.legs timeless.1.1 cheapest.timing)), tt),
+          clear_both (entry_rows b r call areas) (timing_rows b r call) clear
+              ((λ k timeless. timeless.2 x (keeps_less b.legs (after b r call) x k b.legs timeless.1.1 cheapest.timing)), tt),
           times,
           stands,
           (x, cheapest, sum),

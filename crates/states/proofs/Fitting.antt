@@ -8,9 +8,9 @@ use Rattle.books.specs.Meaning.{Meaning, Shaped}
 use Rattle.optimum.specs.Rotation.{Settings, put}
 use Rattle.optimum.proofs.Sums.{put_same, put_other}
 use Rattle.solver.specs.Plans.{Lawful}
-use Rattle.register.specs.Register.{Register, blank, standing, Areas, legwise, opened, with-bounds, with-window, with-total, after, Times, entry-rows}
+use Rattle.register.specs.Register.{Register, blank, standing, Areas, legwise, opened, with_bounds, with_window, with_total, after, Times, entry_rows}
 use Rattle.amounts.specs.Rows.{Row}
-use Rattle.states.specs.States.{settings-of, register, reading, Sound}
+use Rattle.states.specs.States.{settings_of, register, reading, Sound}
 use Rattle.states.specs.declared.state.State.{State}
 use Rattle.register.specs.declared.call.Call.{Call}
 use Rattle.register.specs.declared.call.Call.TheVariants.{Open, Bounds, Window, Lift, Total, Close}
@@ -28,8 +28,8 @@ after-put P f g i v w j here there =
     (cases_eq j i)
 
 module _ (b : Meaning) where
-  fits-opened : Shaped b → (total : ℕ) → (b.legs ≡ 0 → ⊥) → (4095 < total → ⊥) → Lawful b (opened b total)
-  fits-opened shape total some small =
+  fits_opened : Shaped b → (total : ℕ) → (b.legs ≡ 0 → ⊥) → (4095 < total → ⊥) → Lawful b (opened b total)
+  fits_opened shape total some small =
       record {
         some = omega arith;
         day = omega arith;
@@ -42,8 +42,8 @@ module _ (b : Meaning) where
       }
 
   module _ (s : Settings) (fit : Lawful b s) where
-    fits-bounds : (i c d : ℕ) → (d < c → ⊥) → ((c < b.lo i) ⊎ (b.hi i < d) → ⊥) → Lawful b (with-bounds i c d s)
-    fits-bounds i c d order within =
+    fits_bounds : (i c d : ℕ) → (d < c → ⊥) → ((c < b.lo i) ⊎ (b.hi i < d) → ⊥) → Lawful b (with_bounds i c d s)
+    fits_bounds i c d order within =
         record {
           some = fit.some;
           day = fit.day;
@@ -57,8 +57,8 @@ module _ (b : Meaning) where
           windows = fit.windows;
         }
 
-    fits-window : (k a z : ℕ) → a ≤ z → z ≤ 4095 → Lawful b (with-window k a z s)
-    fits-window k a z order small =
+    fits_window : (k a z : ℕ) → a ≤ z → z ≤ 4095 → Lawful b (with_window k a z s)
+    fits_window k a z order small =
         record {
           some = fit.some;
           day = fit.day;
@@ -66,35 +66,35 @@ module _ (b : Meaning) where
           windows = λ j low high. after-put (λ v w. (v ≤ w) × (w ≤ 4095)) s.opens s.shuts k a z j (λ _. (order, small)) (λ _. fit.windows j low high);
         }
 
-    fits-total : (total : ℕ) → (4095 < total → ⊥) → Lawful b (with-total total s)
-    fits-total total small = record { some = fit.some; day = omega arith; bounds = fit.bounds; windows = fit.windows }
+    fits_total : (total : ℕ) → (4095 < total → ⊥) → Lawful b (with_total total s)
+    fits_total total small = record { some = fit.some; day = omega arith; bounds = fit.bounds; windows = fit.windows }
 
   -- the settings of a register that stands
   abbrev pub Fitting : Register → Type 0
   Fitting blank = Unit {0}
   Fitting (standing s) = Lawful b s
 
-  pub fits_after : Shaped b → (r : Register) (call : Call) (areas : Areas) → Fitting r → Clear (entry-rows b r call areas) → Times call → Lawful b (after b r call)
-  fits_after shape blank (Open total) areas fit clear times = fits-opened shape total clear.1.1.0 clear.1.1.1.1.0
+  pub fits_after : Shaped b → (r : Register) (call : Call) (areas : Areas) → Fitting r → Clear (entry_rows b r call areas) → Times call → Lawful b (after b r call)
+  fits_after shape blank (Open total) areas fit clear times = fits_opened shape total clear.1.1.0 clear.1.1.1.1.0
   fits_after shape blank (Bounds leg low high) areas fit clear times = absurd (clear.1.0 ((λ none. none), (λ none. none)))
   fits_after shape blank (Window stop low high) areas fit clear times = absurd (clear.1.0 ((λ none. none), (λ none. none)))
   fits_after shape blank (Lift stop) areas fit clear times = absurd (clear.1.0 ((λ none. none), (λ none. none)))
   fits_after shape blank (Total total) areas fit clear times = absurd (clear.1.0 ((λ none. none), (λ none. none)))
   fits_after shape blank Close areas fit clear times = absurd times
   fits_after shape (standing s) (Open total) areas fit clear times = absurd (clear.0 (tt, tt))
-  fits_after shape (standing s) (Bounds leg low high) areas fit clear times = fits-bounds s fit leg low high clear.1.1.1.0 clear.1.1.1.1.1.0
+  fits_after shape (standing s) (Bounds leg low high) areas fit clear times = fits_bounds s fit leg low high clear.1.1.1.0 clear.1.1.1.1.1.0
   fits_after shape (standing s) (Window stop low high) areas fit clear times =
-      fits-window s fit stop low high
+      fits_window s fit stop low high
       (elim (dec_le low high) [ yes h ↦ h | no h ↦ absurd (clear.1.1.1.0 (omega arith)) ])
       (elim (dec_le high 4095) [ yes h ↦ h | no h ↦ absurd (clear.1.1.1.1.0 (inr (omega arith))) ])
-  fits_after shape (standing s) (Lift stop) areas fit clear times = fits-window s fit stop 0 4095 (omega arith) (omega arith)
-  fits_after shape (standing s) (Total total) areas fit clear times = fits-total s fit total clear.1.1.1.1.0
+  fits_after shape (standing s) (Lift stop) areas fit clear times = fits_window s fit stop 0 4095 (omega arith) (omega arith)
+  fits_after shape (standing s) (Total total) areas fit clear times = fits_total s fit total clear.1.1.1.1.0
   fits_after shape (standing s) Close areas fit clear times = absurd times
 
 -- the register that a sound state is read as
-fitting-bit : (b : Meaning) (bit : Bool) (s : Settings) → (bit ≡ true → Lawful b s) → Fitting b (register bit s)
-fitting-bit b true s fit = fit refl
-fitting-bit b false s fit = tt
+fitting_bit : (b : Meaning) (bit : Bool) (s : Settings) → (bit ≡ true → Lawful b s) → Fitting b (register bit s)
+fitting_bit b true s fit = fit refl
+fitting_bit b false s fit = tt
 
 pub fitting : {b : Meaning} {le : Row → Row → Type 0} {st : State} → Sound b le st → Fitting b (reading st)
-fitting {b} {st} sound = fitting-bit b st.standing (settings-of st) sound.lawful
+fitting {b} {st} sound = fitting_bit b st.standing (settings_of st) sound.lawful

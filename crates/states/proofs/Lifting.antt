@@ -5,65 +5,65 @@ use Rattle.std.specs.Vec as results
 use Rattle.amounts.specs.Rows.{Row}
 use Rattle.board.specs.Rules.{Clear, Broken}
 use Rattle.board.specs.declared.Refusal.{Refusal}
-use Rattle.board.proofs.Boards.{broken-split}
+use Rattle.board.proofs.Boards.{broken_split}
 use Rattle.books.specs.Meaning.{Meaning}
 use Rattle.optimum.specs.Rotation.{Settings, put, reached, earliest, latest, Timing}
-use Rattle.optimum.proofs.Reach.{keeps-less, latest-last}
-use Rattle.optimum.proofs.Sums.{reached-onward}
+use Rattle.optimum.proofs.Reach.{keeps_less, latest_last}
+use Rattle.optimum.proofs.Sums.{reached_onward}
 use Rattle.solver.specs.Plans.{Lawful}
 use Rattle.register.specs.Faults.{row, told}
-use Rattle.register.specs.Register.{Register, Areas, with-window, entry-rows, timing-rows, Timeless, Answered}
+use Rattle.register.specs.Register.{Register, Areas, with_window, entry_rows, timing_rows, Timeless, Answered}
 use Rattle.register.specs.Replies.{timed}
-use Rattle.states.specs.States.{register, reading, settings-of, minutes-of, Sound}
+use Rattle.states.specs.States.{register, reading, settings_of, minutes_of, Sound}
 use Rattle.register.specs.declared.call.Call.TheVariants.{Lift}
 use Rattle.register.specs.declared.fault.SheetFault.{SheetFault}
 use Rattle.states.specs.declared.state.State.{State}
 
 -- a lifted window is wider
-earliest-lifted : (n : ℕ) (s : Settings) (k j v : ℕ) → earliest n s j ≤ v → earliest n (with-window k 0 4095 s) j ≤ v
+earliest_lifted : (n : ℕ) (s : Settings) (k j v : ℕ) → earliest n s j ≤ v → earliest n (with_window k 0 4095 s) j ≤ v
 unfolding earliest put
-earliest-lifted n s k j v kept = grind (arith, nat_tests)
+earliest_lifted n s k j v kept = grind (arith, nat_tests)
 
-latest-lifted : (n : ℕ) (s : Settings) (k j v : ℕ) → v ≤ latest n s j → v ≤ 4095 → v ≤ latest n (with-window k 0 4095 s) j
+latest_lifted : (n : ℕ) (s : Settings) (k j v : ℕ) → v ≤ latest n s j → v ≤ 4095 → v ≤ latest n (with_window k 0 4095 s) j
 unfolding latest put
-latest-lifted n s k j v kept small = grind (arith, nat_tests)
+latest_lifted n s k j v kept small = grind (arith, nat_tests)
 
-lifted : (n : ℕ) (s : Settings) (x : ℕ → ℕ) (k : ℕ) → s.total ≤ 4095 → Timing n s x → Timing n (with-window k 0 4095 s) x
+lifted : (n : ℕ) (s : Settings) (x : ℕ → ℕ) (k : ℕ) → s.total ≤ 4095 → Timing n s x → Timing n (with_window k 0 4095 s) x
 lifted n s x k day timing =
     record {
       bounds = timing.bounds;
       windows = λ j low high.
           let kept = timing.windows j low high in
           let last = timing.windows n (omega arith) (omega arith) in
-          let later = reached-onward x j n high in
-          (earliest-lifted n s k j (reached x j) kept.0, latest-lifted n s k j (reached x j) kept.1 (omega (arith, latest-last n s)));
+          let later = reached_onward x j n high in
+          (earliest_lifted n s k j (reached x j) kept.0, latest_lifted n s k j (reached x j) kept.1 (omega (arith, latest_last n s)));
     }
 
 -- on a sheet that stands, no leg is left without minutes by a lift
-lift-free : (b : Meaning) (bit : Bool) (s : Settings) (x : ℕ → ℕ) (k : ℕ) (areas : Areas) → (bit ≡ true → Lawful b s) → (bit ≡ true → Timing b.legs s x) → Clear (entry-rows b (register bit s) (Lift k) areas) → (j : ℕ) → Timeless b (register bit s) (Lift k) j → ⊥
-lift-free b true s x k areas fit timing clear j timeless =
-    timeless.2 x (keeps-less b.legs (with-window k 0 4095 s) x j b.legs timeless.1.1 (lifted b.legs s x k (fit refl).day (timing refl)))
-lift-free b false s x k areas fit timing clear j timeless = clear.1.0 ((λ none. none), (λ none. none))
+lift_free : (b : Meaning) (bit : Bool) (s : Settings) (x : ℕ → ℕ) (k : ℕ) (areas : Areas) → (bit ≡ true → Lawful b s) → (bit ≡ true → Timing b.legs s x) → Clear (entry_rows b (register bit s) (Lift k) areas) → (j : ℕ) → Timeless b (register bit s) (Lift k) j → ⊥
+lift_free b true s x k areas fit timing clear j timeless =
+    timeless.2 x (keeps_less b.legs (with_window k 0 4095 s) x j b.legs timeless.1.1 (lifted b.legs s x k (fit refl).day (timing refl)))
+lift_free b false s x k areas fit timing clear j timeless = clear.1.0 ((λ none. none), (λ none. none))
 
 -- no row that is looked at first has the number 16
 module _ (why : Refusal) (sixteen : why.number ≡ 16) where
   other_row : {bad : Type 0} (n leg : ℕ) → (n ≡ 16 → ⊥) → bad × (why ≡ row n leg) → ⊥
   other_row n leg other told = other (sym (ap (λ r. r.number) told.1) ∙ sixteen)
 
-  entry-number : (b : Meaning) (r : Register) (k : ℕ) (areas : Areas) → Broken (entry-rows b r (Lift k) areas) why → ⊥
-  entry-number b r k areas =
+  entry_number : (b : Meaning) (r : Register) (k : ℕ) (areas : Areas) → Broken (entry_rows b r (Lift k) areas) why → ⊥
+  entry_number b r k areas =
       ⊎_elim (other_row 9 k (λ e. omega arith)) (λ past9. ⊎_elim (other_row 10 k (λ e. omega arith)) (λ past10. ⊎_elim (other_row 11 k (λ e. omega arith)) (λ past11. ⊎_elim (other_row 12 k (λ e. omega arith)) (λ past12. ⊎_elim (other_row 13 k (λ e. omega arith)) (λ past13. ⊎_elim (other_row 14 k (λ e. omega arith)) (λ past14. ⊎_elim (other_row 15 k (λ e. omega arith)) (λ past15. past15.1) past14.1) past13.1) past12.1) past11.1) past10.1) past9.1)
 
 -- the result of a lift on a sound sheet
-pub lift-opens : {A : Type 0} (row : A → Row) {le : Row → Row → Type 0} (b : Meaning) (st : State) (k : ℕ) (areas : Areas) (r' : Register) (r : Result A SheetFault) → Sound b le st → Answered b le (reading st) (Lift k) areas (timed row r) r' → IfErr r (λ f. (told f).number ≡ 16 → ⊥)
-lift-opens row b st k areas r' (Ok cost) sound answered = tt
-lift-opens row b st k areas r' (Err f) sound answered =
+pub lift_opens : {A : Type 0} (row : A → Row) {le : Row → Row → Type 0} (b : Meaning) (st : State) (k : ℕ) (areas : Areas) (r' : Register) (r : Result A SheetFault) → Sound b le st → Answered b le (reading st) (Lift k) areas (timed row r) r' → IfErr r (λ f. (told f).number ≡ 16 → ⊥)
+lift_opens row b st k areas r' (Ok cost) sound answered = tt
+lift_opens row b st k areas r' (Err f) sound answered =
     λ sixteen.
     ⊎_elim
-    (entry-number (told f) sixteen b (reading st) k areas)
+    (entry_number (told f) sixteen b (reading st) k areas)
     (λ behind.
     ⊎_elim
-    (λ stuck. lift-free b st.standing (settings-of st) (minutes-of st) k areas sound.lawful (λ e. (sound.cheapest e).timing) behind.0 stuck.0 stuck.1)
+    (λ stuck. lift_free b st.standing (settings_of st) (minutes_of st) k areas sound.lawful (λ e. (sound.cheapest e).timing) behind.0 stuck.0 stuck.1)
     (λ past. past.1)
     behind.1)
-    (broken-split (entry-rows b (reading st) (Lift k) areas) (timing-rows b (reading st) (Lift k)) (told f) answered.answer.0)
+    (broken_split (entry_rows b (reading st) (Lift k) areas) (timing_rows b (reading st) (Lift k)) (told f) answered.answer.0)

@@ -3,38 +3,38 @@ use Rattle.std.proofs.Common.{◌≡◌, ℕ, ◌+◌, ◌-◌, ◌<◌, ◌≤�
 use Rattle.std.proofs.lemmas.List.{get_or-take, get_or-drop}
 use Rattle.amounts.specs.Rows.{Row, plus, InRange}
 use Rattle.books.specs.Meaning.{Meaning, Priced, Ranged, Shaped}
-use Rattle.optimum.specs.Rotation.{spent, cost-of}
-use Rattle.optimum.proofs.Sums.{spent-more, spent-range, spent-same}
+use Rattle.optimum.specs.Rotation.{spent, cost_of_timing}
+use Rattle.optimum.proofs.Sums.{spent_more, spent_range, spent_same}
 use Rattle.solver.proofs.Leading.{each_more}
 use Rattle.solver.specs.Plans.{at}
 use Rattle.states.specs.Costs.{flown, AllPriced, Affordable}
 
 module _ (b : Meaning) (ms : List ℕ) (k : ℕ) where
-  flown-next : get_or ms k 0 ≡ flown ms (k + 1)
-  flown-next = let e : k ≡ k + 1 - 1 = omega arith in ap (λ j. get_or ms j 0) e
+  flown_next : get_or ms k 0 ≡ flown ms (k + 1)
+  flown_next = let e : k ≡ k + 1 - 1 = omega arith in ap (λ j. get_or ms j 0) e
 
   -- one leg more in the sum
-  pub spent-next : (all cost : Row) → all ≡ spent b (flown ms) k → cost ≡ b.cost (k + 1) (get_or ms k 0) → plus all cost ≡ spent b (flown ms) (k + 1)
-  spent-next all cost before here = ap₂ plus before (here ∙ ap (b.cost (k + 1)) flown-next) ∙ sym (spent-more b (flown ms) k)
+  pub spent_next : (all cost : Row) → all ≡ spent b (flown ms) k → cost ≡ b.cost (k + 1) (get_or ms k 0) → plus all cost ≡ spent b (flown ms) (k + 1)
+  spent_next all cost before here = ap₂ plus before (here ∙ ap (b.cost (k + 1)) flown_next) ∙ sym (spent_more b (flown ms) k)
 
-  pub priced-next : ((i : ℕ) → 1 ≤ i → i ≤ k → Priced b i (flown ms i)) → Priced b (k + 1) (get_or ms k 0) → (i : ℕ) → 1 ≤ i → i ≤ k + 1 → Priced b i (flown ms i)
-  priced-next before here = each_more (λ i. Priced b i (flown ms i)) k before (subst (Priced b (k + 1)) flown-next here)
+  pub priced_next : ((i : ℕ) → 1 ≤ i → i ≤ k → Priced b i (flown ms i)) → Priced b (k + 1) (get_or ms k 0) → (i : ℕ) → 1 ≤ i → i ≤ k + 1 → Priced b i (flown ms i)
+  priced_next before here = each_more (λ i. Priced b i (flown ms i)) k before (subst (Priced b (k + 1)) flown_next here)
 
   -- the sum lies in the range of amounts
   pub spent_fits : {n : ℕ} → Ranged n b → Shaped b → k + 1 ≤ length ms → AllPriced b ms → InRange n (spent b (flown ms) (k + 1))
   spent_fits range shape within all =
-      spent-range b range shape.few (flown ms) (k + 1) (all (k + 1) (omega arith) within).0.1
+      spent_range b range shape.few (flown ms) (k + 1) (all (k + 1) (omega arith) within).0.1
       (λ i low high. let p = all i low (omega arith) in (p.1, p.2))
 
 -- the cost of a list that holds the minutes of every leg is the cost of the timing
 module _ {A : Type 0} (row : A → Row) (b : Meaning) (ms qs : List ℕ) (long : length qs ≡ b.legs) (same : (i : ℕ) → 1 ≤ i → i ≤ b.legs → flown qs i ≡ at ms i) where
-  pub timing-costs : (r : Option A) → MatchOption r (AllPriced b qs → ⊥) (λ a. AllPriced b qs × (row a ≡ spent b (flown qs) (length qs))) → MatchOption r (Affordable b (at ms) → ⊥) (λ a. row a ≡ cost-of b (at ms))
-  timing-costs None absent = λ all. absent (λ i low high. subst (Priced b i) (sym (same i low (omega arith))) (all i (low, omega arith)))
-  timing-costs (Some a) found = found.1 ∙ ap (spent b (flown qs)) long ∙ spent-same b (flown qs) (at ms) b.legs same
+  pub timing_costs : (r : Option A) → MatchOption r (AllPriced b qs → ⊥) (λ a. AllPriced b qs × (row a ≡ spent b (flown qs) (length qs))) → MatchOption r (Affordable b (at ms) → ⊥) (λ a. row a ≡ cost_of_timing b (at ms))
+  timing_costs None absent = λ all. absent (λ i low high. subst (Priced b i) (sym (same i low (omega arith))) (all i (low, omega arith)))
+  timing_costs (Some a) found = found.1 ∙ ap (spent b (flown qs)) long ∙ spent_same b (flown qs) (at ms) b.legs same
 
 -- the slice of an array from place 1 to n
-pub slice-flown : (ms : List ℕ) (n i : ℕ) → 1 ≤ i → i ≤ n → flown (take (n + 1 - 1) (drop 1 ms)) i ≡ at ms i
-slice-flown ms n i low high =
+pub slice_flown : (ms : List ℕ) (n i : ℕ) → 1 ≤ i → i ≤ n → flown (take (n + 1 - 1) (drop 1 ms)) i ≡ at ms i
+slice_flown ms n i low high =
     let within : i - 1 < n + 1 - 1 = omega arith in
     let place : 1 + (i - 1) ≡ i = omega arith in
     get_or-take (n + 1 - 1) (drop 1 ms) (i - 1) 0 within ∙ get_or-drop 1 ms (i - 1) 0 ∙ ap (at ms) place

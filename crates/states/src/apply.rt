@@ -1,9 +1,9 @@
 // Carries out a call on a sheet's state: checks it, seeks a timing, and puts it on the sheet.
 ghost use Rattle.std.specs.Prelude.{◌≡◌, true, false, IfOk, MatchOption, OnErr};
-ghost use Rattle.optimum.specs.Rotation.{cost-of};
+ghost use Rattle.optimum.specs.Rotation.{cost_of_timing};
 ghost use Rattle.register.specs.Register.{Areas, Stands, Times};
 ghost use Rattle.register.specs.Replies.{timed, shut, reply};
-ghost use Rattle.states.specs.States.{reading, minutes-of, Sound, lent, Carried};
+ghost use Rattle.states.specs.States.{reading, minutes_of, Sound, lent, Carried};
 ghost use Rattle.register.specs.declared.call.Call.TheVariants.{Close};
 
 use crate::cost::timing_cost;
@@ -88,7 +88,7 @@ impl State {
 
     // The cost of the timing that stands; absent on a blank sheet.
     pub fn cost<B: Book>(&self, book: &B) -> Option<B::Cost>
-        ensures { Sound (meaning book.now) B.Cost.Amount.le self.now → MatchOption result (Stands (reading self.now) → ⊥) (λ a. Stands (reading self.now) × (B.Cost.Amount.row a ≡ cost-of (meaning book.now) (minutes-of self.now))) }
+        ensures { Sound (meaning book.now) B.Cost.Amount.le self.now → MatchOption result (Stands (reading self.now) → ⊥) (λ a. Stands (reading self.now) × (B.Cost.Amount.row a ≡ cost_of_timing (meaning book.now) (minutes_of self.now))) }
     {
         if !self.standing {
             return None;

@@ -1,6 +1,6 @@
 // The cost of a timing: the sum over the legs.
 ghost use Rattle.std.specs.Prelude.{◌≡◌, length, MatchOption};
-ghost use Rattle.optimum.specs.Rotation.{spent, cost-of};
+ghost use Rattle.optimum.specs.Rotation.{spent, cost_of_timing};
 ghost use Rattle.solver.specs.Plans.{at};
 ghost use Rattle.states.specs.Costs.{flown, AllPriced, Affordable};
 
@@ -23,7 +23,7 @@ pub(crate) fn cost_of<B: Book>(book: &B, minutes: &[u16]) -> Option<B::Cost>
 // What a timing costs, its minutes by the number of the leg: the sum over the slice of its minutes, from leg 1 to the last.
 pub(crate) fn timing_cost<B: Book>(book: &B, minutes: &[u16]) -> Option<B::Cost>
     requires { length minutes.now ≡ 65 }
-    ensures { MatchOption result (Affordable (meaning book.now) (at minutes.now) → ⊥) (λ a. B.Cost.Amount.row a ≡ cost-of (meaning book.now) (at minutes.now)) }
+    ensures { MatchOption result (Affordable (meaning book.now) (at minutes.now) → ⊥) (λ a. B.Cost.Amount.row a ≡ cost_of_timing (meaning book.now) (at minutes.now)) }
 {
     book.keeps_laws();
     cost_of(book, &minutes[1..book.legs() + 1])

@@ -1,7 +1,7 @@
 // The plans that calls leave.
 ghost use Rattle.std.specs.Prelude.{◌≡◌, ◌<◌};
 ghost use Rattle.solver.specs.Plans.{settings};
-ghost use Rattle.register.specs.Register.{opened, with-bounds, with-window, with-total};
+ghost use Rattle.register.specs.Register.{opened, with_bounds, with_window, with_total};
 
 use books::Book;
 use solver::Plan;
@@ -30,7 +30,7 @@ pub(crate) fn opened_plan<B: Book>(book: &B, total: u16) -> Plan
 // The plan with other bounds of a leg.
 pub(crate) fn set_bounds(mut plan: Plan, leg: usize, low: u16, high: u16) -> Plan
     requires { leg < 65 }
-    ensures { settings result ≡ with-bounds leg low high (settings plan) }
+    ensures { settings result ≡ with_bounds leg low high (settings plan) }
 {
     plan.low[leg] = low;
     plan.high[leg] = high;
@@ -40,7 +40,7 @@ pub(crate) fn set_bounds(mut plan: Plan, leg: usize, low: u16, high: u16) -> Pla
 // The plan with another window of a stop.
 pub(crate) fn set_window(mut plan: Plan, stop: usize, low: u16, high: u16) -> Plan
     requires { stop < 65 }
-    ensures { settings result ≡ with-window stop low high (settings plan) }
+    ensures { settings result ≡ with_window stop low high (settings plan) }
 {
     plan.opens[stop] = low;
     plan.shuts[stop] = high;
@@ -49,7 +49,7 @@ pub(crate) fn set_window(mut plan: Plan, stop: usize, low: u16, high: u16) -> Pl
 
 // The plan with another total.
 pub(crate) fn set_total(mut plan: Plan, total: u16) -> Plan
-    ensures { settings result ≡ with-total total (settings plan) }
+    ensures { settings result ≡ with_total total (settings plan) }
 {
     plan.total = total;
     plan

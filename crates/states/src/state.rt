@@ -4,7 +4,7 @@ ghost use Rattle.amounts.specs.Orders.{Tells};
 ghost use Rattle.board.specs.Rules.{Clear, Broken};
 ghost use Rattle.solver.specs.Plans.{settings};
 ghost use Rattle.register.specs.Faults.{told};
-ghost use Rattle.register.specs.Register.{Unopened, Elsewhere, Cramped, after, blank, entry-rows};
+ghost use Rattle.register.specs.Register.{Unopened, Elsewhere, Cramped, after, blank, entry_rows};
 ghost use Rattle.states.specs.States.{reading};
 ghost use Rattle.books.specs.Meaning.{Meaning};
 
@@ -98,7 +98,7 @@ impl State {
         minutes: usize,
         amounts: usize,
     ) -> Result<(), SheetFault>
-        ensures { MatchResult result (λ _. Clear (entry-rows (meaning book.now) (reading self.now) call (record { minutes = minutes; amounts = amounts }))) (λ f. Broken (entry-rows (meaning book.now) (reading self.now) call (record { minutes = minutes; amounts = amounts })) (told f)) }
+        ensures { MatchResult result (λ _. Clear (entry_rows (meaning book.now) (reading self.now) call (record { minutes = minutes; amounts = amounts }))) (λ f. Broken (entry_rows (meaning book.now) (reading self.now) call (record { minutes = minutes; amounts = amounts })) (told f)) }
     {
         let leg = call.leg();
         if self.standing && opens(call) {

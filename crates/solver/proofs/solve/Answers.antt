@@ -1,7 +1,7 @@
 use Rattle.std.proofs.Common.{ℕ, subst, arith, rules}
 use Rattle.optimum.specs.Rotation.{Timing}
-use Rattle.optimum.proofs.Box.{boxed-start}
-use Rattle.optimum.proofs.Reach.{reach-between, reach-timing}
+use Rattle.optimum.proofs.Box.{boxed_start}
+use Rattle.optimum.proofs.Reach.{reach_between, reach_timing}
 use Rattle.solver.specs.Plans.{at, settings, Clipped}
 use Rattle.solver.proofs.solve.Goals as goal
 
@@ -21,7 +21,7 @@ forward-requires g c =
 pub backward-requires : goal.backward-requires
 backward-requires g c =
     let few = c.keeps-laws.ensures.shape.few in
-    (omega arith, reach-between c.legs-legs.result (settings c.args.plan.now) (at c.in-Ok.span.early) (at c.in-Ok.span.late) c.in-Ok.ensures)
+    (omega arith, reach_between c.legs-legs.result (settings c.args.plan.now) (at c.in-Ok.span.early) (at c.in-Ok.span.late) c.in-Ok.ensures)
 
 pub clip-limits-requires : goal.clip-limits-requires
 clip-limits-requires g c = let few = c.keeps-laws.ensures.shape.few in (omega arith, c.backward.ensures)
@@ -33,9 +33,9 @@ narrow-minutes-requires g c =
     let fit = c.if-not-lawful.ensures in
     let legs = c.legs-legs.ensures in
     let clipped = subst (λ n. Clipped n n s (at limits.low) (at limits.high)) legs c.clip-limits.ensures in
-    let timing = subst (λ n. (x : ℕ → ℕ) × Timing n s x) legs (reach-timing (c.in-Ok.ensures c.legs-legs.result (omega arith))) in (
+    let timing = subst (λ n. (x : ℕ → ℕ) × Timing n s x) legs (reach_timing (c.in-Ok.ensures c.legs-legs.result (omega arith))) in (
       (fit.some, λ i leg. ((fit.bounds i leg).0, (fit.bounds i leg).2)),
-      boxed-start g.met.Cost.Amount.order (λ i leg. clipped.bounds i leg.0 leg.1) timing clipped.timings,
+      boxed_start g.met.Cost.Amount.order (λ i leg. clipped.bounds i leg.0 leg.1) timing clipped.timings,
     )
 
 pub prices-prices-requires : goal.prices-prices-requires

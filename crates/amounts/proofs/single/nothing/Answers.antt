@@ -1,5 +1,5 @@
-use Rattle.amounts.specs.Singles.{single-zero}
+use Rattle.amounts.specs.Singles.{single_zero}
 use Rattle.amounts.proofs.single.nothing.Goals as goal
 
 pub returns : goal.returns
-returns c = single-zero
+returns c = single_zero

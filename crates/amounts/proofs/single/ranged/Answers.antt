@@ -1,7 +1,7 @@
 use Rattle.std.proofs.Common.{◌^◌, ap, arith, lit<, w64}
 use Rattle.std.proofs.lemmas.Int.{ints, to_z-of_z}
 use Rattle.amounts.specs.Rows.{single}
-use Rattle.amounts.specs.Singles.{single-within, nearest-same}
+use Rattle.amounts.specs.Singles.{single-within, nearest_same}
 use Rattle.amounts.proofs.single.ranged.Goals as goal
 use Rattle.amounts.proofs.single.ranged.Goals.{then-exact-via-then-exact, then-exact-via-else-exact+then-exact-gt-LIMIT}
 
@@ -17,5 +17,5 @@ returns-then-exact c h =
 pub returns : goal.returns
 returns c = (
   single-within (2 ^ 47) c.args.exact (omega (arith, ints)) (omega (arith, ints)),
-  let e = to_z-of_z w64 c.args.exact c.ranges.exact in rw e (ap single (nearest-same c.args.exact (omega (arith, ints)) (omega (arith, ints)))),
+  let e = to_z-of_z w64 c.args.exact c.ranges.exact in rw e (ap single (nearest_same c.args.exact (omega (arith, ints)) (omega (arith, ints)))),
 )

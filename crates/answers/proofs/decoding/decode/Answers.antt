@@ -1,7 +1,7 @@
 use Rattle.std.proofs.Common.{◌≡◌, ℕ, ◌-◌, ◌≤◌, List, ◌∷◌, length, get_or, take, drop, sym, refl, ap, ◌∙◌, subst, rules}
 use Rattle.std.proofs.lemmas.List.{take_rest}
 use Rattle.answers.specs.Heard.{Decodes}
-use Rattle.answers.proofs.Places.{bare, headed, refusal-at}
+use Rattle.answers.proofs.Places.{bare, headed, refusal_at}
 use Rattle.answers.proofs.decoding.decode.Goals as goal
 
 pub returns-in-128 : goal.returns-in-128
@@ -9,7 +9,7 @@ returns-in-128 c = (bare c.args.bytes.now c.type-inv.bytes 128 (search rules) (s
 
 pub returns-in-ok-layer : goal.returns-in-ok-layer
 returns-in-ok-layer c =
-    let is = refusal-at c.args.bytes.now c.type-inv.bytes 238 _ _ _ c.from-be-bytes.result (search rules) (search rules) refl
+    let is = refusal_at c.args.bytes.now c.type-inv.bytes 238 _ _ _ c.from-be-bytes.result (search rules) (search rules) refl
     (sym c.in-ok-layer.ensures) refl c.from-be-bytes.ensures in
     (is, search rules, refl)
 

@@ -2,7 +2,7 @@ use Rattle.std.proofs.Common.{◌≡◌, ℕ, ◌+◌, ◌*◌, ◌≤◌, List,
 use Rattle.std.proofs.lemmas.List.{drop_all, length-take-le}
 use Rattle.std.proofs.lemmas.Int.{to_z-of_z}
 use Rattle.answers.specs.Spelling.{wide, words}
-use Rattle.answers.proofs.Apart.{no-timing}
+use Rattle.answers.proofs.Apart.{no_timing}
 use Rattle.answers.proofs.decoding.decode_timing.Goals as goal
 use Rattle.answers.proofs.decoding.decode_timing.Goals.{then-count-gt64-via-then-count-gt64, then-count-gt64-via-else-count-gt64+then-fields-count}
 
@@ -13,7 +13,7 @@ returns-then-count-gt64 c =
       | then-count-gt64-via-then-count-gt64 w ↦ omega (arith, w.if-count-gt64.true)
       | then-count-gt64-via-else-count-gt64+then-fields-count w ↦ w.if-fields-count.true size
     ] in
-    (refl, no-timing c.args.legs c.args.fields.now bad)
+    (refl, no_timing c.args.legs c.args.fields.now bad)
 
 pub returns : goal.returns
 returns c =

@@ -4,7 +4,7 @@ use Rattle.std.proofs.ByRecursion.{All-push}
 use Rattle.std.proofs.lemmas.List.{take_more_set}
 use Rattle.hex.proofs.Digits.{rest_more}
 use Rattle.answers.specs.Spelling.{words}
-use Rattle.answers.proofs.Bytes.{words-push}
+use Rattle.answers.proofs.Bytes.{words_push}
 use Rattle.answers.proofs.Places.{word_at}
 use Rattle.answers.proofs.decoding.take_minutes.Goals as goal
 
@@ -19,7 +19,7 @@ loop-i-preserved c =
     let small : n < 65536 = search rules in (
       c.loop-i.invariant.0
           ∙ ap (words before) (word_at c.args.fields.now c.type-inv.fields i n (omega arith) c.from-be-bytes.ensures)
-          ∙ sym (words-push before n rest)
+          ∙ sym (words_push before n rest)
           ∙ ap (λ ns. words ns rest) (sym more),
       subst (All (λ m. m < 65536)) (sym more) (All-push (λ m. m < 65536) before n c.loop-i.invariant.1 small),
       rest_more c.loop-i.minutes c.args.minutes.now i n c.loop-i.invariant.2,

@@ -4,7 +4,7 @@ use Rattle.std.proofs.ByRecursion.{All-from_get_or, All-take}
 use Rattle.std.proofs.lemmas.Int.{to_z-of_z}
 use Rattle.frames.specs.Frames.{word}
 use Rattle.answers.specs.Spelling.{wide, words}
-use Rattle.answers.proofs.Bytes.{first-legs, later, parts-joined, words_more}
+use Rattle.answers.proofs.Bytes.{first_legs, later, parts_joined, words_more}
 use Rattle.answers.proofs.encoding.put_timing.Goals as goal
 
 pub loop-minute-init : goal.loop-minute-init
@@ -34,7 +34,7 @@ returns c =
     simp (to_z-of_z w64 c.args.kilograms c.ranges.kilograms) at c.to-be-bytes-2.ensures in
     let cents : c.to-be-bytes-3.result ≡ wide c.args.cents [] =
     simp (to_z-of_z w64 c.args.cents c.ranges.cents) at c.to-be-bytes-3.ensures in
-    let first : flown ≡ take 64 c.args.minutes.now = first-legs c.args.minutes.now (c.min-legs.result - 0) (omega arith) in
+    let first : flown ≡ take 64 c.args.minutes.now = first_legs c.args.minutes.now (c.min-legs.result - 0) (omega arith) in
     record {
       rest =
           c.put.ensures.rest
@@ -55,6 +55,6 @@ returns c =
           ∙ ap (λ t. t ++ c.to-be-bytes-3.result) (c.put-end-2.ensures.front ∙ ap (λ t. t ++ c.to-be-bytes-2.result) c.loop-minute.invariant.1)
           ∙ ap (λ t. 0x81 ∷ length flown ∷ ((words (take i flown) [] ++ t) ++ c.to-be-bytes-3.result)) kilograms
           ∙ ap (λ t. 0x81 ∷ length flown ∷ ((words (take i flown) [] ++ wide c.args.kilograms []) ++ t)) cents
-          ∙ ap (λ t. 0x81 ∷ length flown ∷ t) (parts-joined flown i c.args.kilograms c.args.cents (omega arith))
+          ∙ ap (λ t. 0x81 ∷ length flown ∷ t) (parts_joined flown i c.args.kilograms c.args.cents (omega arith))
           ∙ ap (λ ns. 0x81 ∷ length ns ∷ words ns (wide c.args.kilograms (wide c.args.cents []))) first;
     }

@@ -1,13 +1,13 @@
 -- The minute that is told, one more leg that keeps the step law, and all of them.
 use Rattle.std.proofs.Common.{◌+◌, ◌<◌, arith, below_more}
 use Rattle.cards.specs.Cards.{head}
-use Rattle.cards.proofs.Legs.{in-time}
+use Rattle.cards.proofs.Legs.{in_time}
 use Rattle.cards.proofs.checks.check_steps.Goals as goal
 
 -- the middle minute that is told is one of the leg's
 middle : (c : goal.In-Some) → (head c.args.heads.now c.loop-leg.leg).first + c.in-Some.place + 1 < 4095
 middle c =
-    in-time c.args.heads.now c.args.cards.now c.requires c.loop-leg.leg (omega arith, omega arith) _ c.leg-costs.ensures _
+    in_time c.args.heads.now c.args.cards.now c.requires c.loop-leg.leg (omega arith, omega arith) _ c.leg-costs.ensures _
     c.in-Some.ensures.0.0
 
 pub overflow-cast-minute : goal.overflow-cast-minute

@@ -18,11 +18,11 @@ exact : (x y : ℤ) → SFits w64 x → SFits w64 y → wide (wide (wide (narrow
 exact x y f g = omega (arith, ints)
 
 -- the test of an order tells it
-tells-less : (a b x y : ℤ) → a ≡ x → b ≡ y → Tells (lt_z a b) (x <ℤ y)
-tells-less a b x y p q = grind (arith, ints)
+tells_less : (a b x y : ℤ) → a ≡ x → b ≡ y → Tells (lt_z a b) (x <ℤ y)
+tells_less a b x y p q = grind (arith, ints)
 
 pub returns : goal.returns
 returns c =
-    tells-less _ _ (c.args.after -ℤ c.args.middle) (c.args.middle -ℤ c.args.before)
+    tells_less _ _ (c.args.after -ℤ c.args.middle) (c.args.middle -ℤ c.args.before)
     (exact c.args.after c.args.middle c.ranges.after c.ranges.middle)
     (exact c.args.middle c.args.before c.ranges.middle c.ranges.before)

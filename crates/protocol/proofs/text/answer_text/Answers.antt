@@ -2,17 +2,17 @@ use Rattle.std.proofs.Common.{◌≡◌, ◌+◌, [], ◌∷◌, ◌++◌, lengt
 use Rattle.answers.specs.Meaning.{meant}
 use Rattle.answers.specs.Spelling.{spelled}
 use Rattle.lines.specs.Lines.{lines_of}
-use Rattle.lines.specs.Reader.{toCome}
+use Rattle.lines.specs.Reader.{to_come}
 use Rattle.states.specs.States.{lent}
 use Rattle.protocol.specs.Conversation.{Answers, Line}
 use Rattle.protocol.specs.Desks.{stage, reply}
 use Rattle.protocol.specs.Faults.{told}
-use Rattle.protocol.proofs.Conversing.{answers-more, answers-all}
+use Rattle.protocol.proofs.Conversing.{answers_more, answers_all}
 use Rattle.protocol.proofs.text.answer_text.Goals as goal
 
 pub loop-line-init : goal.loop-line-init
 loop-line-init c =
-    let all = ap toCome c.into-iter-line-iterator.ensures.into-iter-gives ∙ c.new-line-items.ensures.all in (
+    let all = ap to_come c.into-iter-line-iterator.ensures.into-iter-gives ∙ c.new-line-items.ensures.all in (
       ([], sym (append-nil _), λ rest said. said),
       c.new-desk.ensures.sane,
       omega (arith, ap length all, c.new-line-items.ensures.bound, ap length c.start-of.ensures, length-take 65535 c.args.text.now),
@@ -33,8 +33,8 @@ loop-line-preserved c =
       (
         so_far.0 ++ line,
         wrote.items ∙ ap (λ t. t ++ line) so_far.1 ∙ append_assoc (vec_items c.args.out.now) so_far.0 line,
-        answers-more (Answers room 1 (stage c.new-desk.result) (toCome c.into-iter-line-iterator.result)) room n (stage c.loop-line.desk) (toCome c.loop-line.line-iterator) so_far.0 so_far.2
-            c.in-Some.line.now (toCome c.next.new.self) (stage c.answer-outcome.new.self) told-as (meant c.answer-of.result) (so_far.0 ++ line)
+        answers_more (Answers room 1 (stage c.new-desk.result) (to_come c.into-iter-line-iterator.result)) room n (stage c.loop-line.desk) (to_come c.loop-line.line-iterator) so_far.0 so_far.2
+            c.in-Some.line.now (to_come c.next.new.self) (stage c.answer-outcome.new.self) told-as (meant c.answer-of.result) (so_far.0 ++ line)
             step answered c.answer-of.ensures wrote.spells refl,
       ),
       c.answer-outcome.ensures.sane,
@@ -57,8 +57,8 @@ pub returns : goal.returns
 returns c =
     let room = lent c.args.minutes.now c.args.amounts.now in
     let so_far = c.loop-line.invariant.0 in
-    let all : toCome c.into-iter-line-iterator.result ≡ lines_of (take 65535 c.args.text.now) =
-    ap toCome c.into-iter-line-iterator.ensures.into-iter-gives ∙ c.new-line-items.ensures.all ∙ ap lines_of c.start-of.ensures in
+    let all : to_come c.into-iter-line-iterator.result ≡ lines_of (take 65535 c.args.text.now) =
+    ap to_come c.into-iter-line-iterator.ensures.into-iter-gives ∙ c.new-line-items.ensures.all ∙ ap lines_of c.start-of.ensures in
     let start = stage c.new-desk.result in
     record {
       answers = (
@@ -68,7 +68,7 @@ returns c =
           start,
           c.new-desk.ensures.start,
           subst (λ lines. Answers room 1 start lines so_far.0) all
-              (answers-all (Answers room 1 start (toCome c.into-iter-line-iterator.result)) room (c.loop-line.number + 1) (stage c.loop-line.desk) (toCome c.loop-line.line-iterator) so_far.0 so_far.2 c.in-None.ensures.steps.0),
+              (answers_all (Answers room 1 start (to_come c.into-iter-line-iterator.result)) room (c.loop-line.number + 1) (stage c.loop-line.desk) (to_come c.loop-line.line-iterator) so_far.0 so_far.2 c.in-None.ensures.steps.0),
         ),
       );
       room = λ _. refl;

@@ -1,7 +1,7 @@
 use Rattle.std.proofs.Common.{◌≡◌, ◌+◌, ◌++◌, string_bytes, codes, decimal, inl, inr, arith, rules}
 use Rattle.std.proofs.lemmas.Bool.{cases_eq}
 use Rattle.sample_run.specs.Words.{spaced}
-use Rattle.sample_run.proofs.Listing.{spaced-more}
+use Rattle.sample_run.proofs.Listing.{spaced_more}
 use Rattle.sample_run.proofs.words.minutes_words.Goals as goal
 
 pub loop-done-init : goal.loop-done-init
@@ -18,7 +18,7 @@ loop-done-preserved g c =
     let said : string_bytes c.in-ok-words.words ≡ codes " " ++ decimal c.in-Some.minutes = search rules in
     let grown : string_bytes c.push-str.new.self ≡ string_bytes c.loop-done.all ++ string_bytes c.in-ok-words.words = simp c.as-str.ensures.value at c.in-ok-push-str.ensures.bytes in (
       (λ i from to. elim (cases_eq (c.loop-done.done + 1) i) [ inl same ↦ (here.0, (from, omega (arith, here.1.1))) | inr other ↦ c.loop-done.invariant.0 i from (omega arith) ]),
-      spaced-more _ _ _ _ _ _ c.loop-done.invariant.1 here.2 said grown,
+      spaced_more _ _ _ _ _ _ c.loop-done.invariant.1 here.2 said grown,
     )
 
 pub returns : goal.returns

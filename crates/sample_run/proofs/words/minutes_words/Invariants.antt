@@ -1,7 +1,7 @@
 use Rattle.std.proofs.Common.{◌≡◌, ℕ, ◌≤◌, string_bytes}
 use Rattle.books.specs.Meaning.{IsLeg}
 use Rattle.register.specs.Register.{Stands}
-use Rattle.states.specs.States.{reading, minutes-of}
+use Rattle.states.specs.States.{reading, minutes_of}
 use Rattle.sample_run.specs.Words.{spaced}
 use Rattle.sample_run.proofs.words.minutes_words.Given as goal
 
@@ -9,4 +9,4 @@ use Rattle.sample_run.proofs.words.minutes_words.Given as goal
 abbrev pub invariant-loop-done : goal.invariant-loop-done
 invariant-loop-done g l =
     ((i : ℕ) → 1 ≤ i → i ≤ l.done → Stands (reading l.sheet.state) × IsLeg (g.B.Book.meaning l.sheet.book) i)
-    × (string_bytes l.all ≡ spaced (minutes-of l.sheet.state) l.done)
+    × (string_bytes l.all ≡ spaced (minutes_of l.sheet.state) l.done)

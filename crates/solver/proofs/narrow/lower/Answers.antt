@@ -3,11 +3,11 @@ use Rattle.std.proofs.lemmas.List.{length-set, get_or-set_same, get_or-set_other
 use Rattle.optimum.specs.Rotation.{reached, latest}
 use Rattle.optimum.specs.Method.{Boxed}
 use Rattle.optimum.proofs.Box as box
-use Rattle.optimum.proofs.Box.{can-lower}
-use Rattle.optimum.proofs.Sums.{reached-put-down}
+use Rattle.optimum.proofs.Box.{can_lower}
+use Rattle.optimum.proofs.Sums.{reached_put_down}
 use Rattle.solver.specs.Plans.{at, settings}
 use Rattle.solver.specs.declared.steps.Move.TheVariants.{Lower}
-use Rattle.solver.proofs.Moves.{box-steps, hand_moved, step-lowered}
+use Rattle.solver.proofs.Moves.{box_steps, hand_moved, step_lowered}
 use Rattle.solver.proofs.Places.{at_set}
 use Rattle.solver.proofs.narrow.lower.Goals as goal
 
@@ -17,7 +17,7 @@ returns-then-all-target g c = let target = rw c.legs.ensures at c.closing-target
 pub gather-requires : goal.gather-requires
 gather-requires g c =
     let few = c.keeps-laws.ensures.shape.few in
-    ((omega arith, omega arith), box-steps c.requires.1.0 c.requires.1.1 Lower _ c.requires.0.0)
+    ((omega arith, omega arith), box_steps c.requires.1.0 c.requires.1.1 Lower _ c.requires.0.0)
 
 pub loop-all-init : goal.loop-all-init
 loop-all-init g c = (c.sum-all.ensures, c.gather.ensures, c.requires.1.1)
@@ -27,8 +27,8 @@ choose-leg-requires g c =
     let few = c.keeps-laws.ensures.shape.few in
     let target = rw c.legs.ensures at c.closing-target.ensures in
     let boxed = c.loop-all.invariant.2 in (
-      (omega arith, omega arith, λ none. let j = can-lower boxed c.requires.0.0 (omega arith) in none j.0 j.1 j.2 j.3),
-      (box-steps c.requires.1.0 boxed Lower _ c.requires.0.0, c.loop-all.invariant.1),
+      (omega arith, omega arith, λ none. let j = can_lower boxed c.requires.0.0 (omega arith) in none j.0 j.1 j.2 j.3),
+      (box_steps c.requires.1.0 boxed Lower _ c.requires.0.0, c.loop-all.invariant.1),
     )
 
 pub refresh-requires : goal.refresh-requires
@@ -37,7 +37,7 @@ refresh-requires g c =
     let leads = c.choose-leg.ensures in
     let i = c.choose-leg.result in
     let within : i < length c.loop-all.high = omega arith in
-    (omega arith, simp length-set within, step-lowered c.requires.1.0 c.loop-all.invariant.2 i (leads.0, omega arith) _ (get_or-set_same c.loop-all.high i _ 0 within))
+    (omega arith, simp length-set within, step_lowered c.requires.1.0 c.loop-all.invariant.2 i (leads.0, omega arith) _ (get_or-set_same c.loop-all.high i _ 0 within))
 
 pub loop-all-preserved : goal.loop-all-preserved
 loop-all-preserved g c =
@@ -55,7 +55,7 @@ loop-all-preserved g c =
     let e = at_set high i (get_or high i 0 - 1) within in
     let open' = leads.2 in
     let all = ap (λ f. reached f (k + 1)) e in
-    let down = reached-put-down (at high) i (k + 1) leads.0 leads.1 (omega arith) in (
+    let down = reached_put_down (at high) i (k + 1) leads.0 leads.1 (omega arith) in (
       omega arith,
       c.refresh.ensures (k + 1) (hand_moved g.Cost.Amount.row b Lower low (at high) low _ (k + 1) i (λ j other. (refl, get_or-set_other high i j _ 0 other)) c.loop-all.steps c.loop-all.invariant.1),
       subst (λ f. Boxed b g.Cost.Amount.le s low f k) (sym e)

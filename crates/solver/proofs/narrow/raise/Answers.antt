@@ -3,11 +3,11 @@ use Rattle.std.proofs.lemmas.List.{length-set, get_or-set_same, get_or-set_other
 use Rattle.optimum.specs.Rotation.{reached, earliest}
 use Rattle.optimum.specs.Method.{Boxed}
 use Rattle.optimum.proofs.Box as box
-use Rattle.optimum.proofs.Box.{can-raise}
-use Rattle.optimum.proofs.Sums.{reached-put-up}
+use Rattle.optimum.proofs.Box.{can_raise}
+use Rattle.optimum.proofs.Sums.{reached_put_up}
 use Rattle.solver.specs.Plans.{at, settings}
 use Rattle.solver.specs.declared.steps.Move.TheVariants.{Raise}
-use Rattle.solver.proofs.Moves.{box-steps, hand_moved, step-raised}
+use Rattle.solver.proofs.Moves.{box_steps, hand_moved, step_raised}
 use Rattle.solver.proofs.Places.{at_set}
 use Rattle.solver.proofs.narrow.raise.Goals as goal
 
@@ -17,7 +17,7 @@ returns-then-target-all g c = let target = rw c.legs.ensures at c.opening-target
 pub gather-requires : goal.gather-requires
 gather-requires g c =
     let few = c.keeps-laws.ensures.shape.few in
-    ((omega arith, omega arith), box-steps c.requires.1.0 c.requires.1.1 Raise _ c.requires.0.0)
+    ((omega arith, omega arith), box_steps c.requires.1.0 c.requires.1.1 Raise _ c.requires.0.0)
 
 pub loop-all-init : goal.loop-all-init
 loop-all-init g c = (c.sum-all.ensures, c.gather.ensures, c.requires.1.1)
@@ -27,8 +27,8 @@ choose-leg-requires g c =
     let few = c.keeps-laws.ensures.shape.few in
     let target = rw c.legs.ensures at c.opening-target.ensures in
     let boxed = c.loop-all.invariant.2 in (
-      (omega arith, omega arith, λ none. let j = can-raise boxed c.requires.0.0 (omega arith) in none j.0 j.1 j.2 j.3),
-      (box-steps c.requires.1.0 boxed Raise _ c.requires.0.0, c.loop-all.invariant.1),
+      (omega arith, omega arith, λ none. let j = can_raise boxed c.requires.0.0 (omega arith) in none j.0 j.1 j.2 j.3),
+      (box_steps c.requires.1.0 boxed Raise _ c.requires.0.0, c.loop-all.invariant.1),
     )
 
 pub refresh-requires : goal.refresh-requires
@@ -37,7 +37,7 @@ refresh-requires g c =
     let leads = c.choose-leg.ensures in
     let i = c.choose-leg.result in
     let within : i < length c.loop-all.low = omega arith in
-    (simp length-set within, omega arith, step-raised c.requires.1.0 c.loop-all.invariant.2 i (leads.0, omega arith) _ (get_or-set_same c.loop-all.low i _ 0 within))
+    (simp length-set within, omega arith, step_raised c.requires.1.0 c.loop-all.invariant.2 i (leads.0, omega arith) _ (get_or-set_same c.loop-all.low i _ 0 within))
 
 pub loop-all-preserved : goal.loop-all-preserved
 loop-all-preserved g c =
@@ -53,7 +53,7 @@ loop-all-preserved g c =
     let leads = c.choose-leg.ensures in
     let within : i < length low = omega arith in
     let e = at_set low i (get_or low i 0 + 1) within in
-    let all = ap (λ f. reached f (k + 1)) e ∙ reached-put-up (at low) i (k + 1) leads.0 leads.1 in (
+    let all = ap (λ f. reached f (k + 1)) e ∙ reached_put_up (at low) i (k + 1) leads.0 leads.1 in (
       omega arith,
       c.refresh.ensures (k + 1) (hand_moved g.Cost.Amount.row b Raise (at low) high _ high (k + 1) i (λ j other. (get_or-set_other low i j _ 0 other, refl)) c.loop-all.steps c.loop-all.invariant.1),
       subst (λ f. Boxed b g.Cost.Amount.le s f high k) (sym e)

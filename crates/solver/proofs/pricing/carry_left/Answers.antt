@@ -2,7 +2,7 @@ use Rattle.std.proofs.Common.{◌+◌, ◌-◌, ◌<◌, subst, ⊎_elim, arith}
 use Rattle.std.proofs.lemmas.Bool.{cases_eq}
 use Rattle.optimum.specs.Rotation.{reached, latest}
 use Rattle.solver.specs.Plans.{at, settings}
-use Rattle.solver.proofs.Markup.{fair-left, fair-set, rises-left, falls-left}
+use Rattle.solver.proofs.Markup.{fair_left, fair_set, rises_left, falls_left}
 use Rattle.solver.proofs.pricing.carry_left.Goals as goal
 
 pub loop-k-init : goal.loop-k-init
@@ -27,9 +27,9 @@ loop-k-preserved-then-sum-closing g c =
     let few = c.keeps-laws.ensures.shape.few in
     let shuts = rw c.legs-legs.ensures at c.closing.ensures in
     let loose : reached x k < latest b.legs s k = omega arith in (
-      fair-set order b.legs k ps r (omega arith) (fair-left order k _ _ r (inv.0 k (omega arith) (omega arith)) (inv.0 (k + 1) (omega arith) (omega arith)) loose c.greater.ensures) inv.0,
-      rises-left order b s x ps k r b.legs (omega arith) (omega arith) (omega arith) inv.1 c.greater.ensures,
-      falls-left order b s x ps k r b.legs (omega arith) (λ j low high. inv.2 j (omega arith) high) c.greater.ensures,
+      fair_set order b.legs k ps r (omega arith) (fair_left order k _ _ r (inv.0 k (omega arith) (omega arith)) (inv.0 (k + 1) (omega arith) (omega arith)) loose c.greater.ensures) inv.0,
+      rises_left order b s x ps k r b.legs (omega arith) (omega arith) (omega arith) inv.1 c.greater.ensures,
+      falls_left order b s x ps k r b.legs (omega arith) (λ j low high. inv.2 j (omega arith) high) c.greater.ensures,
     )
 
 pub loop-k-preserved : goal.loop-k-preserved

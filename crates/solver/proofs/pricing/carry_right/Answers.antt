@@ -4,7 +4,7 @@ use Rattle.optimum.specs.declared.Price.{Price}
 use Rattle.optimum.specs.Rotation.{reached, earliest}
 use Rattle.solver.specs.Plans.{at, settings}
 use Rattle.solver.specs.Pricing.{FairUp, Rises}
-use Rattle.solver.proofs.Markup.{fair-right, fair-set, rises-right}
+use Rattle.solver.proofs.Markup.{fair_right, fair_set, rises_right}
 use Rattle.solver.proofs.pricing.carry_right.Goals as goal
 use Rattle.solver.proofs.pricing.carry_right.Goals.{then-opening-sum, else-opening-sum}
 
@@ -35,8 +35,8 @@ loop-k-preserved g c =
           let loose : earliest b.legs s k < reached x k = omega arith in
           let fair = c.loop-k.invariant.0 in
           subst Carried (sym w.prices-is) (
-            fair-set order b.legs (k + 1) ps r (omega arith) (fair-right order k _ _ r (fair k (omega arith) (omega arith)) (fair (k + 1) (omega arith) (omega arith)) loose w.greater.ensures) fair,
-            rises-right order b s x ps k r (omega arith) c.loop-k.invariant.1 w.greater.ensures,
+            fair_set order b.legs (k + 1) ps r (omega arith) (fair_right order k _ _ r (fair k (omega arith) (omega arith)) (fair (k + 1) (omega arith) (omega arith)) loose w.greater.ensures) fair,
+            rises_right order b s x ps k r (omega arith) c.loop-k.invariant.1 w.greater.ensures,
           )
       | else-opening-sum w ↦
           subst Carried (sym w.prices-is) (

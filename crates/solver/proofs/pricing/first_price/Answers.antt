@@ -1,5 +1,5 @@
 use Rattle.std.proofs.Common.{inr, arith}
-use Rattle.solver.proofs.Markup.{fair-first}
+use Rattle.solver.proofs.Markup.{fair_first}
 use Rattle.solver.proofs.pricing.first_price.Goals as goal
 
 pub greater-requires : goal.greater-requires
@@ -11,4 +11,4 @@ greater-requires g c =
 
 pub returns : goal.returns
 returns g c =
-    fair-first g.met.Cost.Amount.order c.keeps-laws.ensures.steps c.requires.1.fits c.requires.1.cheapest c.args.leg c.args.base c.greater.result c.requires.0 c.if-minutes-leg.false c.requires.2 c.greater.ensures
+    fair_first g.met.Cost.Amount.order c.keeps-laws.ensures.steps c.requires.1.fits c.requires.1.cheapest c.args.leg c.args.base c.greater.result c.requires.0 c.if-minutes-leg.false c.requires.2 c.greater.ensures

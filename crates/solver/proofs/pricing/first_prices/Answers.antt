@@ -2,7 +2,7 @@ use Rattle.std.proofs.Common.{sym, refl, subst, arith}
 use Rattle.std.proofs.lemmas.List.{length-set}
 use Rattle.solver.specs.Plans.{at, settings}
 use Rattle.solver.specs.Pricing.{Fair}
-use Rattle.solver.proofs.Markup.{after-price}
+use Rattle.solver.proofs.Markup.{after_price}
 use Rattle.solver.proofs.pricing.first_prices.Goals as goal
 
 pub loop-k-init : goal.loop-k-init
@@ -19,7 +19,7 @@ loop-k-preserved g c =
     let few = c.keeps-laws.ensures.shape.few in (
       simp length-set c.loop-k.invariant.0,
       λ i low high.
-          after-price (Fair b g.Cost.Amount.le s x i) c.loop-k.prices _ c.first-price.result i (omega arith)
+          after_price (Fair b g.Cost.Amount.le s x i) c.loop-k.prices _ c.first-price.result i (omega arith)
           (λ same. subst (λ j. Fair b g.Cost.Amount.le s x j c.first-price.result) (sym same) c.first-price.ensures)
           (λ other. c.loop-k.invariant.1 i low (omega arith)),
     )

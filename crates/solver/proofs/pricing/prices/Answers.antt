@@ -1,10 +1,10 @@
-use Rattle.optimum.proofs.Fair.{price-rule}
+use Rattle.optimum.proofs.Fair.{price_rule}
 use Rattle.solver.proofs.pricing.prices.Goals as goal
 
 pub returns : goal.returns
 returns g c =
     let after = c.carry-left.ensures in
-    price-rule g.met.Cost.Amount.order c.keeps-laws.ensures.steps c.requires.fits c.requires.cheapest.timing
+    price_rule g.met.Cost.Amount.order c.keeps-laws.ensures.steps c.requires.fits c.requires.cheapest.timing
     (λ i leg. (after.fair i leg.0 leg.1).named)
     (λ i leg. (after.fair i leg.0 leg.1).safe)
     (λ i leg. (after.fair i leg.0 leg.1).covers)

@@ -1,7 +1,7 @@
 use Rattle.std.proofs.Common.{◌+◌, sym, subst, arith}
 use Rattle.solver.specs.Plans.{at}
 use Rattle.solver.specs.Steps.{Before, edge_row}
-use Rattle.solver.proofs.Leading.{Found, found-shut, found-open}
+use Rattle.solver.proofs.Leading.{Found, found_shut, found_open}
 use Rattle.solver.proofs.steps.leader.Goals as goal
 use Rattle.solver.proofs.steps.leader.Goals.{then-low-leg, else-low-leg}
 
@@ -24,7 +24,7 @@ loop-k-preserved g c =
     let best = c.loop-k.best in
     elim c.if-low-leg.branch [
       | then-low-leg w ↦ subst (Found (Before way g.Cost.Amount.le) row rows l u (k + 1)) (sym w.best-is)
-          (found-open order way row rows l u k best w.edge-step-step.result w.better.result c.loop-k.invariant w.if-low-leg.true w.edge-step-step.ensures w.better.ensures)
+          (found_open order way row rows l u k best w.edge-step-step.result w.better.result c.loop-k.invariant w.if-low-leg.true w.edge-step-step.ensures w.better.ensures)
       | else-low-leg w ↦ subst (Found (Before way g.Cost.Amount.le) row rows l u (k + 1)) (sym w.best-is)
-          (found-shut order way row rows l u k best c.loop-k.invariant w.if-low-leg.false)
+          (found_shut order way row rows l u k best c.loop-k.invariant w.if-low-leg.false)
     ]

@@ -4,7 +4,7 @@ use Rattle.amounts.specs.Rows.{InRange}
 use Rattle.books.specs.Meaning.{Priced}
 use Rattle.optimum.specs.Rotation.{spent}
 use Rattle.states.specs.Costs.{flown}
-use Rattle.states.proofs.Summing.{spent-next, priced-next, spent_fits}
+use Rattle.states.proofs.Summing.{spent_next, priced_next, spent_fits}
 use Rattle.states.proofs.cost.cost_of.Goals as goal
 
 pub loop-k-init : goal.loop-k-init
@@ -18,7 +18,7 @@ returns-in-err-total g c =
     let cost = c.in-ok-cost.ensures in
     let absent = MatchOption-at_none _ _ c.in-err-total.was c.checked-add.ensures in
     rw c.from-residual-in-err-total.ensures
-    (λ all. absent (subst (InRange g.Cost.Amount.places) (sym (spent-next b ms c.loop-k.k _ _ c.loop-k.invariant.0 cost.1)) (spent_fits b ms c.loop-k.k c.keeps-laws.ensures.range c.keeps-laws.ensures.shape (omega arith) all)))
+    (λ all. absent (subst (InRange g.Cost.Amount.places) (sym (spent_next b ms c.loop-k.k _ _ c.loop-k.invariant.0 cost.1)) (spent_fits b ms c.loop-k.k c.keeps-laws.ensures.range c.keeps-laws.ensures.shape (omega arith) all)))
 
 pub loop-k-preserved : goal.loop-k-preserved
 loop-k-preserved g c =
@@ -26,8 +26,8 @@ loop-k-preserved g c =
     let ms = c.args.minutes.now in
     let cost = c.in-ok-cost.ensures in
     let sum = c.in-ok-total.ensures in (
-      sum.1 ∙ spent-next b ms c.loop-k.k _ _ c.loop-k.invariant.0 cost.1,
-      priced-next b ms c.loop-k.k c.loop-k.invariant.1 cost.0,
+      sum.1 ∙ spent_next b ms c.loop-k.k _ _ c.loop-k.invariant.0 cost.1,
+      priced_next b ms c.loop-k.k c.loop-k.invariant.1 cost.0,
     )
 
 pub returns : goal.returns

@@ -1,6 +1,6 @@
 use Rattle.std.proofs.Common.{◌≡◌, ◌+◌, ◌-◌, length, take, drop, arith}
 use Rattle.std.proofs.lemmas.List.{length-take, length-drop}
-use Rattle.states.proofs.Summing.{timing-costs, slice-flown}
+use Rattle.states.proofs.Summing.{timing_costs, slice_flown}
 use Rattle.states.proofs.cost.timing_cost.Goals as goal
 
 pub returns : goal.returns
@@ -10,6 +10,6 @@ returns g c =
     let n = c.legs.result in
     let few = c.keeps-laws.ensures.shape.few in
     let long : length (take (n + 1 - 1) (drop 1 ms)) ≡ b.legs = simp (length-take, length-drop) (omega arith) in
-    timing-costs g.Cost.Amount.row b ms (take (n + 1 - 1) (drop 1 ms)) long
-    (λ i low high. slice-flown ms n i low (omega arith))
-    c.cost-of.result c.cost-of.ensures
+    timing_costs g.Cost.Amount.row b ms (take (n + 1 - 1) (drop 1 ms)) long
+    (λ i low high. slice_flown ms n i low (omega arith))
+    c.cost_of_timing.result c.cost_of_timing.ensures

@@ -3,13 +3,13 @@ use Rattle.std.proofs.lemmas.List.{length-set}
 use Rattle.std.proofs.lemmas.Option.{MatchOption-at_some}
 use Rattle.solver.specs.Plans.{at}
 use Rattle.register.specs.Register.{legwise}
-use Rattle.states.proofs.Settled.{same-settings, legwise-set, legwise-none, read-replicate}
+use Rattle.states.proofs.Settled.{same_settings, legwise-set, legwise-none, read_replicate}
 use Rattle.states.proofs.plans.opened_plan.Goals as goal
 
 pub loop-k-init : goal.loop-k-init
 loop-k-init g c =
     let b = g.B.Book.meaning c.args.book.now in
-    (refl, refl, read-replicate 65 0 ∙ legwise-none b.lo, read-replicate 65 0 ∙ legwise-none b.hi)
+    (refl, refl, read_replicate 65 0 ∙ legwise-none b.lo, read_replicate 65 0 ∙ legwise-none b.hi)
 
 pub loop-k-preserved : goal.loop-k-preserved
 loop-k-preserved g c =
@@ -28,8 +28,8 @@ returns g c =
     let b = g.B.Book.meaning c.args.book.now in
     let inv = c.loop-k.invariant in
     let all : c.loop-k.k ≡ b.legs = omega arith in
-    same-settings _ _ refl
+    same_settings _ _ refl
     (subst (λ n. at c.loop-k.low ≡ legwise n b.lo) all inv.2)
     (subst (λ n. at c.loop-k.high ≡ legwise n b.hi) all inv.3)
-    (read-replicate 65 0)
-    (read-replicate 65 4095)
+    (read_replicate 65 0)
+    (read_replicate 65 4095)

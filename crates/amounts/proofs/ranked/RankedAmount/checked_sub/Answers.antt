@@ -1,4 +1,4 @@
-use Rattle.amounts.specs.JoinedRows.{joined-within, within_first, within-second, minus-joined}
+use Rattle.amounts.specs.JoinedRows.{joined-within, within_first, within_second, minus-joined}
 use Rattle.amounts.proofs.ranked.RankedAmount.checked_sub.Goals as goal
 
 pub returns-in-err-first : goal.returns-in-err-first
@@ -9,7 +9,7 @@ returns-in-err-first g c =
 pub returns-in-err-second : goal.returns-in-err-second
 returns-in-err-second g c =
     simp c.from-residual-in-err-second.ensures
-    (λ h. c.in-err-second.ensures (within-second _ g.A.Amount.places _ _ _ (rw minus-joined at h)))
+    (λ h. c.in-err-second.ensures (within_second _ g.A.Amount.places _ _ _ (rw minus-joined at h)))
 
 pub returns : goal.returns
 returns g c =

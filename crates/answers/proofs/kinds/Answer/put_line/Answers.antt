@@ -7,28 +7,28 @@ use Rattle.answers.specs.Meaning.{meant}
 use Rattle.answers.specs.Spelling.{spelled}
 use Rattle.answers.proofs.kinds.Answer.put_line.Goals as goal
 
-short-line : (bytes : List ℕ) (count : ℕ) → count ≤ 146 → length (hexed (take (count - 0) bytes)) ≤ 292
-short-line bytes count few = omega (arith, length-hexed (take (count - 0) bytes), length-take (count - 0) bytes)
+short_line : (bytes : List ℕ) (count : ℕ) → count ≤ 146 → length (hexed (take (count - 0) bytes)) ≤ 292
+short_line bytes count few = omega (arith, length-hexed (take (count - 0) bytes), length-take (count - 0) bytes)
 
 pub unreachable-requires : goal.unreachable-requires
 unreachable-requires c =
-    omega (arith, c.in-default.ensures.0, short-line c.encode-count.new.place c.encode-count.result c.encode-count.ensures.count)
+    omega (arith, c.in-default.ensures.0, short_line c.encode-count.new.place c.encode-count.result c.encode-count.ensures.count)
 
 pub bounds-place-end : goal.bounds-place-end
 bounds-place-end c =
-    omega (arith, c.in-Some.ensures.0, short-line c.encode-count.new.place c.encode-count.result c.encode-count.ensures.count)
+    omega (arith, c.in-Some.ensures.0, short_line c.encode-count.new.place c.encode-count.result c.encode-count.ensures.count)
 
 pub overflow-add-result : goal.overflow-add-result
 overflow-add-result c =
     let short : c.in-Some.end ≤ 292 =
-    omega (arith, c.in-Some.ensures.0, short-line c.encode-count.new.place c.encode-count.result c.encode-count.ensures.count) in
+    omega (arith, c.in-Some.ensures.0, short_line c.encode-count.new.place c.encode-count.result c.encode-count.ensures.count) in
     search rules
 
 pub returns : goal.returns
 returns c =
     let end : ℕ = c.in-Some.end in
     let wrote = c.in-Some.ensures in
-    let short : end ≤ 292 = omega (arith, wrote.0, short-line c.encode-count.new.place c.encode-count.result c.encode-count.ensures.count) in
+    let short : end ≤ 292 = omega (arith, wrote.0, short_line c.encode-count.new.place c.encode-count.result c.encode-count.ensures.count) in
     let text : take end c.write-hex.new.place ≡ spelled (meant c.args.self) =
     ap (take end) wrote.1
     ∙ take_at (hexed (take (c.encode-count.result - 0) c.encode-count.new.place)) _ end (sym wrote.0)

@@ -2,7 +2,7 @@ use Rattle.std.proofs.Common.{◌≡◌, ◌+◌, ◌-◌, [], ◌∷◌, ◌++�
 use native.Mathlib.Nat.{sub-zero}
 use Rattle.answers.specs.Meaning.{meant}
 use Rattle.answers.specs.Spelling.{spelled}
-use Rattle.answers.proofs.Apart.{same-reply, well-formed}
+use Rattle.answers.proofs.Apart.{same_reply, well_formed}
 use Rattle.answers.proofs.kinds.Answer.write.Goals as goal
 
 pub returns : goal.returns
@@ -16,6 +16,6 @@ returns c =
       room = λ free. c.extend-from-slice.ensures.succeeds (omega (arith, long, free));
       capacity = c.extend-from-slice.ensures.capacity;
       spells = record { is = refl; fits = fits };
-      short = (well-formed _ fits).short;
-      only = λ other spells. same-reply _ _ spells.fits fits (sym spells.is);
+      short = (well_formed _ fits).short;
+      only = λ other spells. same_reply _ _ spells.fits fits (sym spells.is);
     }

@@ -1,17 +1,17 @@
 use Rattle.std.proofs.Common.{refl}
 use native.Mathlib.Nat.{sub-zero}
-use Rattle.answers.proofs.Apart.{read-bytes, well-formed}
+use Rattle.answers.proofs.Apart.{read_bytes, well_formed}
 use Rattle.answers.proofs.kinds.Reading.read.Goals as goal
 
 pub returns-in-default : goal.returns-in-default
 returns-in-default c =
     record {
       reads = refl;
-      only = λ reply spells. c.in-default.ensures.0 (rw spells.is (well-formed reply spells.fits));
+      only = λ reply spells. c.in-default.ensures.0 (rw spells.is (well_formed reply spells.fits));
     }
 
 pub returns : goal.returns
 returns c =
-    let read = read-bytes c.args.line.now _ c.args.minutes.now c.decode.result c.decode.new.minutes
+    let read = read_bytes c.args.line.now _ c.args.minutes.now c.decode.result c.decode.new.minutes
     c.in-Some.ensures.2 (rw sub-zero at c.decode.ensures) in
     record { reads = read.0; only = read.1 }

@@ -1,6 +1,6 @@
 -- Minutes between the ends of a leg have a card, and the amount made from it means it.
 use Rattle.std.proofs.Common.{◌≡◌, ◌-◌, ◌≤◌, get_or, pos, arith, rules}
-use Rattle.cards.specs.Cards.{head, lastMinute, cardAt}
+use Rattle.cards.specs.Cards.{head, last_minute_of, card_at}
 use Rattle.cards.proofs.Laws.{exact}
 use Rattle.cards.proofs.Legs.{within}
 use Rattle.cards.proofs.book.CardBookBook.cost.Goals as goal
@@ -16,6 +16,6 @@ returns c =
     let book = c.args.self.now in
     let leg = head book.heads.now c.args.leg in
     let low : leg.first ≤ c.args.minutes = rw (← found.1) (omega arith) in
-    let high : c.args.minutes ≤ lastMinute leg = rw (← found.1) (omega arith) in
-    let card : get_or c.leg-costs-costs.result.now (c.args.minutes - c.in-ok-head.head.first) (pos 0) ≡ cardAt book.heads.now book.cards.now c.args.leg c.args.minutes = rw (c.leg-costs-costs.ensures, found.1) in
+    let high : c.args.minutes ≤ last_minute_of leg = rw (← found.1) (omega arith) in
+    let card : get_or c.leg-costs-costs.result.now (c.args.minutes - c.in-ok-head.head.first) (pos 0) ≡ card_at book.heads.now book.cards.now c.args.leg c.args.minutes = rw (c.leg-costs-costs.ensures, found.1) in
     ((found.0, low, high), exact _ _ book.shaped book.lawful _ _ (found.0, low, high) _ _ card c.new.ensures)

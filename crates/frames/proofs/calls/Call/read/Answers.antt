@@ -1,14 +1,14 @@
 use native.Mathlib.Nat.{sub-zero}
-use Rattle.frames.proofs.Answers.{answer-malformed, answer-decoded, answer-only}
+use Rattle.frames.proofs.Answers.{answer_malformed, answer_decoded, answer_only}
 use Rattle.frames.proofs.calls.Call.read.Goals as goal
 
 pub returns-in-default : goal.returns-in-default
 returns-in-default c =
-    let answer = answer-malformed c.args.line.now c.in-default.ensures.0 in
-    record { answer = answer; only = λ other is. answer-only c.args.line.now _ other answer is }
+    let answer = answer_malformed c.args.line.now c.in-default.ensures.0 in
+    record { answer = answer; only = λ other is. answer_only c.args.line.now _ other answer is }
 
 pub returns : goal.returns
 returns c =
     let read = c.in-Some.ensures in
-    let answer = answer-decoded c.args.line.now _ c.decode.result read.0 read.2 (rw sub-zero at c.decode.ensures) in
-    record { answer = answer; only = λ other is. answer-only c.args.line.now _ other answer is }
+    let answer = answer_decoded c.args.line.now _ c.decode.result read.0 read.2 (rw sub-zero at c.decode.ensures) in
+    record { answer = answer; only = λ other is. answer_only c.args.line.now _ other answer is }

@@ -1,7 +1,7 @@
 use Rattle.std.proofs.Common.{length, ap, arith, rules}
 use native.Mathlib.Nat.{sub-zero}
 use Rattle.lines.proofs.lines.LinesIterator.next.Goals as goal
-use Rattle.lines.proofs.Cuts.{first-line, no_lines}
+use Rattle.lines.proofs.Cuts.{first_line, no_lines}
 use Rattle.std.proofs.iter.Next.{firm}
 
 pub returns-then-is-empty : goal.returns-then-is-empty
@@ -9,7 +9,7 @@ returns-then-is-empty c = search (rules, no_lines)
 
 pub returns : goal.returns
 returns c =
-    let line = first-line c.args.self.now.rest.now c.after-self.result.now c.line-end-end.result
+    let line = first_line c.args.self.now.rest.now c.after-self.result.now c.line-end-end.result
     (search rules) c.line-end-end.ensures.within c.line-end-end.ensures.before c.line-end-end.ensures.found
     c.after-self.ensures in
     record { steps = rw sub-zero line; goes = firm ((tt, tt, omega (arith, ap length line))) (λ h. search rules) }

@@ -6,7 +6,7 @@ use Rattle.solver.specs.Plans.{at, Lawful, First}
 use Rattle.register.specs.Register.{standing}
 use Rattle.states.specs.States.{reading, Sound}
 use Rattle.states.specs.declared.state.State.{State}
-use Rattle.states.proofs.Answering.{answered-entry, answered-stuck, answered-granted}
+use Rattle.states.proofs.Answering.{answered_entry, answered_stuck, answered_granted}
 use Rattle.states.proofs.Fitting.{fits_after, fitting}
 use Rattle.states.proofs.state.State.time.Goals as goal
 
@@ -18,7 +18,7 @@ returns-in-err-admit g c =
     (record {
       carried =
           record {
-            answered = λ _. answered-entry b (reading c.args.self.now) c.args.call _ _ c.in-err-admit.ensures;
+            answered = λ _. answered_entry b (reading c.args.self.now) c.args.call _ _ c.in-err-admit.ensures;
             sound = λ sound. sound;
           };
       unwritten = (refl, refl, refl);
@@ -31,7 +31,7 @@ returns-in-Stuck g c =
     record {
       carried =
           record {
-            answered = λ _. answered-stuck b r c.args.call _ c.in-Stuck.leg c.in-ok-admit.ensures c.requires (subst (λ s. First b.legs s c.in-Stuck.leg) c.planned-plan.ensures c.in-Stuck.ensures.solves.1);
+            answered = λ _. answered_stuck b r c.args.call _ c.in-Stuck.leg c.in-ok-admit.ensures c.requires (subst (λ s. First b.legs s c.in-Stuck.leg) c.planned-plan.ensures c.in-Stuck.ensures.solves.1);
             sound = λ sound. sound;
           };
       unwritten = (refl, refl, c.in-Stuck.ensures.unwritten tt);
@@ -68,7 +68,7 @@ returns g c =
       carried =
           record {
             answered = λ _.
-                answered-granted b r c.args.call _ _ (at found.minutes) _ c.in-ok-admit.ensures c.requires
+                answered_granted b r c.args.call _ _ (at found.minutes) _ c.in-ok-admit.ensures c.requires
                 (subst (λ s. Cheapest b le s (at found.minutes)) c.planned-plan.ensures solves.1)
                 (MatchOption-at_some _ _ _ c.unwrap-cost.ensures c.timing-cost.ensures)
                 (ap reading c.stand.ensures ∙ ap standing c.planned-plan.ensures);
