@@ -7,8 +7,8 @@ use Rattle.board.specs.Layers.{code}
 use Rattle.board.specs.declared.Layer.{Layer}
 use Rattle.board.specs.declared.Layer.TheVariants.{Frame, Book, Sheet}
 use Rattle.board.specs.declared.Refusal.{Refusal}
-use Rattle.hex.specs.Hex.{hexed, WellFormed}
-use Rattle.hex.proofs.Digits.{digits_hexed, length-hexed}
+use Rattle.hexadecimal.specs.Hex.{hexed, WellFormed}
+use Rattle.hexadecimal.proofs.Digits.{digits_hexed, length-hexed}
 use Rattle.frames.proofs.Inverse.{same_hexed}
 use Rattle.answers.specs.Heard.{Decodes, ReadAs, Reads, heard}
 use Rattle.answers.specs.Spelling.{Reply, done, timing, refused, wide, words, answer_bytes, spelled, Fits, Spells}

@@ -7,7 +7,7 @@ use Rattle.std.specs.List.{AllByRecursion as All}
 use Rattle.board.specs.Layers.{code}
 use Rattle.board.specs.declared.Refusal.{Refusal}
 use Rattle.frames.specs.Frames.{word}
-use Rattle.hex.specs.Hex.{hexed}
+use Rattle.hexadecimal.specs.Hex.{hexed}
 
 -- an answer: done; the minutes that stand, from leg 1 on, with their kilograms and cents; or a refusal and the number of its line
 pub data Reply : Type 0 where

@@ -8,7 +8,7 @@ ghost use Rattle.answers.specs.Spelling.{Reply, Spells, wide, words};
 
 use crate::kinds::Reading;
 use board::{Layer, Refusal};
-use hex::read_hex;
+use hexadecimal::read_hex;
 
 // The layer that has a number.
 fn layer_of(number: u8) -> Option<Layer>

@@ -4,7 +4,7 @@ ghost use Rattle.answers.specs.Meaning.{meant};
 ghost use Rattle.answers.specs.Spelling.{Reply, timing, answer_bytes, spelled, Fits, Spells};
 
 use crate::kinds::Answer;
-use hex::write_hex;
+use hexadecimal::write_hex;
 use std::alloc::AllocError;
 
 // Puts bytes into a place that has room for them from `at` on, and tells where they end; the others

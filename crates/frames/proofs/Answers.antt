@@ -3,13 +3,13 @@ use Rattle.std.proofs.Common.{◌≡◌, ℕ, ◌*◌, ◌<◌, ◌≤◌, List,
 use Rattle.std.specs.List.{AllByRecursion as All}
 use Rattle.std.proofs.lemmas.Bool.{cases_order}
 use Rattle.frames.specs.Faults.{told}
-use Rattle.hex.specs.Hex.{hexed, Hexes, WellFormed}
+use Rattle.hexadecimal.specs.Hex.{hexed, Hexes, WellFormed}
 use Rattle.frames.specs.Frames.{Answer, Applies, Decoded, Fits, Misfits, Spells, Unknown, frame_of, line_of}
 use Rattle.frames.specs.declared.calls.Call.{Call}
 use Rattle.frames.specs.declared.calls.Call.TheVariants.{Open, Bounds, Window, Lift, Total, Close, AddLeg, SetRate}
 use Rattle.frames.specs.declared.faults.FrameFault.{FrameFault}
 use Rattle.frames.specs.declared.faults.FrameFault.TheVariants.{Malformed, UnknownKind, WrongLength, TooLate}
-use Rattle.hex.proofs.Digits.{digits_hexed, length-hexed}
+use Rattle.hexadecimal.proofs.Digits.{digits_hexed, length-hexed}
 use Rattle.frames.proofs.Inverse.{same_hexed, same_frame}
 
 pub answer_malformed : (line : List ℕ) → (WellFormed 64 line → ⊥) → Answer line (Err Malformed)

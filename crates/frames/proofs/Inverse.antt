@@ -3,7 +3,7 @@ use Rattle.std.proofs.Common.{◌≡◌, ℕ, ◌+◌, ◌-◌, ◌*◌, ◌/◌
 use mir.ValLaws.{of_z_fits}
 use Rattle.std.proofs.lemmas.Int.{to_z-of_z}
 use Rattle.std.proofs.lemmas.Bool.Decides.{nat_tests}
-use Rattle.hex.specs.Hex.{digit, hexed}
+use Rattle.hexadecimal.specs.Hex.{digit, hexed}
 use Rattle.frames.specs.Frames.{frame_of, Fits}
 use Rattle.frames.specs.declared.calls.Call.{Call}
 use Rattle.frames.specs.declared.calls.Call.TheVariants.{Open, Bounds, Window, Lift, Total, Close, AddLeg, SetRate}

@@ -5,7 +5,7 @@ use Rattle.std.specs.Int.{w32}
 use Rattle.std.proofs.Common.{of_z}
 use Rattle.std.specs.List.{AllByRecursion as All}
 use Rattle.frames.specs.Faults.{told}
-use Rattle.hex.specs.Hex.{hexed, Hexes, WellFormed}
+use Rattle.hexadecimal.specs.Hex.{hexed, Hexes, WellFormed}
 use Rattle.frames.specs.declared.calls.Call.{Call}
 use Rattle.frames.specs.declared.calls.Call.TheVariants.{Open, Bounds, Window, Lift, Total, Close, AddLeg, SetRate}
 use Rattle.frames.specs.declared.faults.FrameFault.{FrameFault}

@@ -6,7 +6,7 @@ ghost use Rattle.frames.specs.declared.faults.FrameFault.{FrameFault as AnyFault
 
 use crate::calls::Call;
 use crate::faults::FrameFault;
-use hex::read_hex;
+use hexadecimal::read_hex;
 
 // The bytes of a frame as a call: the kind first, then the fields, high byte first.
 fn decode(bytes: &[u8]) -> Result<Call, FrameFault>

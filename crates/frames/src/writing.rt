@@ -1,10 +1,10 @@
 // Writing a call as a line.
 ghost use Rattle.std.specs.Prelude.{◌≡◌, ◌≤◌, ◌++◌, length, drop};
-ghost use Rattle.hex.specs.Hex.{hexed};
+ghost use Rattle.hexadecimal.specs.Hex.{hexed};
 ghost use Rattle.frames.specs.Frames.{line_of, Spells};
 
 use crate::calls::Call;
-use hex::write_hex;
+use hexadecimal::write_hex;
 
 // Writes the bytes of a frame as hexadecimal at the start of a place, and tells how many characters it wrote; the others stay.
 fn put_hex(bytes: &[u8], place: &mut [u8; 64]) -> usize

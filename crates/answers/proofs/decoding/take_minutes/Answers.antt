@@ -2,7 +2,7 @@ use Rattle.std.proofs.Common.{ℕ, ◌+◌, ◌*◌, ◌<◌, List, length, take
 use Rattle.std.specs.List.{AllByRecursion as All}
 use Rattle.std.proofs.ByRecursion.{All-push}
 use Rattle.std.proofs.lemmas.List.{take_more_set}
-use Rattle.hex.proofs.Digits.{rest_more}
+use Rattle.hexadecimal.proofs.Digits.{rest_more}
 use Rattle.answers.specs.Spelling.{words}
 use Rattle.answers.proofs.Bytes.{words_push}
 use Rattle.answers.proofs.Places.{word_at}

@@ -1,5 +1,5 @@
 use Rattle.std.proofs.Common.{rules}
-use Rattle.hex.proofs.Digits.{length-hexed}
+use Rattle.hexadecimal.proofs.Digits.{length-hexed}
 use Rattle.frames.proofs.writing.put_hex.Goals as goal
 
 pub unwrap-requires : goal.unwrap-requires

@@ -1,8 +1,8 @@
 use Rattle.std.proofs.Common.{◌≡◌, ℕ, ◌-◌, ◌≤◌, List, [], ◌∷◌, ◌++◌, length, take, drop, sym, ap, ◌∙◌, arith, rules}
 use native.Mathlib.Nat.{sub-zero}
 use Rattle.std.proofs.lemmas.List.{drop_at, length-take, take_at, take_more_set}
-use Rattle.hex.specs.Hex.{hexed}
-use Rattle.hex.proofs.Digits.{length-hexed, rest_more}
+use Rattle.hexadecimal.specs.Hex.{hexed}
+use Rattle.hexadecimal.proofs.Digits.{length-hexed, rest_more}
 use Rattle.answers.specs.Meaning.{meant}
 use Rattle.answers.specs.Spelling.{spelled}
 use Rattle.answers.proofs.kinds.Answer.put_line.Goals as goal

@@ -1,7 +1,7 @@
 use Rattle.std.proofs.Common.{◌≡◌, ◌*◌, ◌/◌, ◌≤◌, length, take, drop, sym, ap, ◌∙◌, subst, arith, rules}
-use Rattle.hex.specs.Hex.{hexed}
-use Rattle.hex.proofs.hex.take_hex.Goals as goal
-use Rattle.hex.proofs.Digits.{read_more, rest_more}
+use Rattle.hexadecimal.specs.Hex.{hexed}
+use Rattle.hexadecimal.proofs.hex.take_hex.Goals as goal
+use Rattle.hexadecimal.proofs.Digits.{read_more, rest_more}
 use Rattle.std.proofs.lemmas.List.{take_all}
 
 pub loop-i-preserved : goal.loop-i-preserved

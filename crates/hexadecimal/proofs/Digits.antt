@@ -3,7 +3,7 @@ use Rattle.std.proofs.Common.{◌≡◌, ℕ, zero, suc, ◌+◌, ◌*◌, ◌/�
 use Rattle.std.specs.List.{AllByRecursion as All}
 use Rattle.std.proofs.lemmas.Bool.{cases_lt, le-ltb, lt-ltb}
 use Rattle.std.proofs.lemmas.List.{append_assoc, drop-drop, drop_more, drop-set-lt, set_at, take_more, take_more_set, length_push, length-take-le}
-use Rattle.hex.specs.Hex.{digit, Digit, Digits, hexed, Stands}
+use Rattle.hexadecimal.specs.Hex.{digit, Digit, Digits, hexed, Stands}
 
 pub length-hexed : (bs : List ℕ) → length (hexed bs) ≡ 2 * length bs
 length-hexed [] = refl

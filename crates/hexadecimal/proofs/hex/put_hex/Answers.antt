@@ -1,6 +1,6 @@
 use Rattle.std.proofs.Common.{rules}
-use Rattle.hex.proofs.hex.put_hex.Goals as goal
-use Rattle.hex.proofs.Digits.{written_more, length-hexed}
+use Rattle.hexadecimal.proofs.hex.put_hex.Goals as goal
+use Rattle.hexadecimal.proofs.Digits.{written_more, length-hexed}
 use Rattle.std.proofs.lemmas.List.{take_all}
 
 pub loop-i-preserved : goal.loop-i-preserved

@@ -1,6 +1,6 @@
 // Bytes as capital hexadecimal digits, written and read.
 ghost use Rattle.std.specs.Prelude.{◌≡◌, ◌*◌, ◌<◌, ◌≤◌, ◌++◌, length, take, drop, MatchBool};
-ghost use Rattle.hex.specs.Hex.{digit, Digit, Digits, Stands, hexed, Hexes, WellFormed, Puts, Takes};
+ghost use Rattle.hexadecimal.specs.Hex.{digit, Digit, Digits, Stands, hexed, Hexes, WellFormed, Puts, Takes};
 
 // The capital digit of a number below 16.
 fn digit_of(n: u8) -> u8
