@@ -1,4 +1,6 @@
 // Kinds of amount: the interface, and the kinds kilograms, cents and ranked.
+#![tactic(auto)]
+
 ghost use Rattle.std.specs.Prelude.{◌≡◌, ℕ};
 ghost use Rattle.amounts.specs.Rows.{Row, none, plus, minus, Ends, InRange, Exactly};
 ghost use Rattle.amounts.specs.Orders.{Order, Tells};

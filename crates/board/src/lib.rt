@@ -1,4 +1,6 @@
 // Refusals: what every layer tells of a call that it turns down.
+#![tactic(auto)]
+
 ghost use Rattle.std.specs.Prelude.{◌≡◌};
 ghost use Rattle.board.specs.Layers.{code};
 

@@ -1,4 +1,6 @@
 // Cost books: the interface, and the books of the engine.
+#![tactic(auto)]
+
 ghost use Rattle.std.specs.Prelude.{◌≡◌, MatchOption};
 ghost use Rattle.books.specs.Meaning.{Meaning, IsLeg, Priced, Shaped, Ranged, Convex};
 

@@ -1,4 +1,6 @@
 // Card books: costs in kilograms, given minute by minute.
+#![tactic(auto)]
+
 mod book;
 mod checks;
 mod head;

@@ -23,7 +23,8 @@ fn writes(rt: HostRuntime) -> Result<(), Fail> {
     }
     .write(&mut text)?;
     assert!(rt;
-        text.as_slice() == b"80\n8102003D004000000000000000110000000000000000\nEE1003010006\n"
+        text.as_slice()
+            == b"80\n8102003D004000000000000000110000000000000000\nEE1003010006\n".as_slice()
     );
     Ok(())
 }
@@ -54,7 +55,7 @@ fn writes_extremes(rt: HostRuntime) -> Result<(), Fail> {
     .write(&mut text)?;
     assert!(rt;
         text.as_slice()
-            == b"81010FFFFFFF8000000000000000800000000000\n8100FFFFFFFFFFFFFFFF0000000000000001\nEE0602FFFFFF\n"
+            == b"81010FFFFFFF8000000000000000800000000000\n8100FFFFFFFFFFFFFFFF0000000000000001\nEE0602FFFFFF\n".as_slice()
     );
     Ok(())
 }

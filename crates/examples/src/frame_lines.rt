@@ -31,7 +31,7 @@ fn writes(rt: HostRuntime) {
     }
     .write(&mut place);
     assert_eq!(rt; count, 26);
-    assert!(rt; &place[0..28] == b"110001003CFFFFFFFF00320046..");
+    assert!(rt; &place[0..28] == b"110001003CFFFFFFFF00320046..".as_slice());
 }
 
 #[test]

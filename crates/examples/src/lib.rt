@@ -1,4 +1,6 @@
 // Examples of lines of text, calls and answers, as tests. They stand apart, since a crate with tests is proved once more for them.
+#![tactic(auto)]
+
 #[cfg(test)]
 mod answer_lines;
 #[cfg(test)]

@@ -1,4 +1,6 @@
 // Reads frames from standard input and says each in words.
+#![tactic(auto)]
+
 mod words;
 
 use anyhow::anyhow;

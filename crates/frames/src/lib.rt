@@ -1,4 +1,6 @@
 // Frames: calls as lines of capital hexadecimal, and back.
+#![tactic(auto)]
+
 pub mod calls;
 pub mod faults;
 mod reading;

@@ -1,4 +1,6 @@
 // Bytes as capital hexadecimal, written and read.
+#![tactic(auto)]
+
 mod hex;
 
 pub use hex::{read_hex, write_hex};

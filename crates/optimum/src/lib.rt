@@ -1,4 +1,6 @@
 // The mathematics of rotations: what timings, cheapest timings and prices are, and the lemmas about them (in proofs/).
+#![tactic(auto)]
+
 ghost use Rattle.std.specs.Prelude.{ℕ};
 ghost use Rattle.amounts.specs.Rows.{Same};
 ghost use Rattle.books.specs.Meaning.{Meaning};

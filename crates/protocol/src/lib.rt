@@ -1,4 +1,6 @@
 // The protocol of a rotation: a text of calls, answered line by line.
+#![tactic(auto)]
+
 mod desk;
 mod fault;
 mod program;

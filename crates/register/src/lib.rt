@@ -1,4 +1,6 @@
 // The calls of a sheet, the refusals of the sheet layer, and (in specs/) the register that a sheet is measured by.
+#![tactic(auto)]
+
 mod call;
 mod fault;
 

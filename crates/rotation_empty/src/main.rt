@@ -1,4 +1,6 @@
 // The program `rotation` on a book without a leg.
+#![tactic(auto)]
+
 use protocol::serve;
 
 fn main(rt: HostRuntime) -> anyhow::Result<()> {

@@ -1,4 +1,6 @@
 // Works through the sample rotations on real sheets and prints what stands after each call.
+#![tactic(auto)]
+
 ghost use Rattle.std.specs.Prelude.{◌≤◌};
 ghost use Rattle.books.specs.Formula.{formulas};
 ghost use Rattle.samples.specs.Samples.{leg};

@@ -43,7 +43,7 @@ pub(crate) fn refusal_words(heap: Global, refusal: Refusal) -> Result<String, Al
 
 // The minutes that stand on a sheet, leg 1 first, each behind a space.
 pub(crate) fn minutes_words<B: Book>(heap: Global, sheet: &Sheet<B>) -> Result<String, AllocError>
-    ensures { IfOk result (λ words. Listed (λ i. Stands (reading sheet.now.state) × IsLeg (meaning sheet.now.book) i) (minutes_of sheet.now.state) (string_bytes words)) }
+    ensures { IfOk result (λ words. Listed (λ i. Stands (reading sheet.now.state) × IsLeg (B.meaning sheet.now.book) i) (minutes_of sheet.now.state) (string_bytes words)) }
 {
     let mut all = String::new(heap);
     for done in 0..64 {

@@ -25,7 +25,7 @@ impl<B: Book> Sheet<B> {
         minutes: &mut [u16],
         amounts: &mut [B::Cost],
     ) -> Result<Option<B::Cost>, SheetFault>
-        ensures carried { Carried (meaning self.old.book) B.Cost.Amount.le self.old.state call (lent minutes.old amounts.old) (reply B.Cost.Amount.row result) self.new.state }
+        ensures carried { Carried (B.meaning self.old.book) B.Cost.Amount.le self.old.state call (lent minutes.old amounts.old) (reply B.Cost.Amount.row result) self.new.state }
         ensures over { self.new.book ≡ self.old.book }
         ensures unwritten { OnErr result ((self.new.state ≡ self.old.state) × (minutes.new ≡ minutes.old) × (amounts.new ≡ amounts.old)) }
     {
@@ -51,11 +51,11 @@ pub fn run<B: Book>(
     amounts: &mut [B::Cost],
     answers: &mut [Result<Option<B::Cost>, SheetFault>],
 ) -> Sheet<B>
-    ensures register { Run (meaning book) B.Cost.Amount.le blank (fed (lent minutes.old amounts.old) (take (length answers.old) calls.now)) (map (reply B.Cost.Amount.row) (take (length calls.now) answers.new)) (reading result.state) }
+    ensures register { Run (B.meaning book) B.Cost.Amount.le blank (fed (lent minutes.old amounts.old) (take (length answers.old) calls.now)) (map (reply B.Cost.Amount.row) (take (length calls.now) answers.new)) (reading result.state) }
     ensures rest { drop (length calls.now) answers.new ≡ drop (length calls.now) answers.old }
-    ensures sound { Sound (meaning book) B.Cost.Amount.le result.state }
+    ensures sound { Sound (B.meaning book) B.Cost.Amount.le result.state }
     ensures over { result.book ≡ book }
-    ensures one { OneAnswer (meaning book) B.Cost.Amount.le B.Cost.Amount.places }
+    ensures one { OneAnswer (B.meaning book) B.Cost.Amount.le B.Cost.Amount.places }
 {
     let mut sheet = Sheet::new(book);
     for k in 0..calls.len().min(answers.len()) {

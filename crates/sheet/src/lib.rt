@@ -1,4 +1,6 @@
 // The sheet of a rotation: its settings, a cheapest timing and its prices, and the calls that change them.
+#![tactic(auto)]
+
 mod calls;
 mod sheet;
 

@@ -26,7 +26,7 @@ impl<B: Book> Sheet<B> {
     pub fn new(book: B) -> Sheet<B>
         ensures over { result.book ≡ book }
         ensures blank { reading result.state ≡ blank }
-        ensures sound { Sound (meaning book) Cost-as-Amount.le result.state }
+        ensures sound { Sound (B.meaning book) B.Cost.Amount.le result.state }
     {
         let state = State::new();
         Sheet { book, state }
@@ -39,7 +39,7 @@ impl<B: Book> Sheet<B> {
         minutes: &mut [u16],
         amounts: &mut [B::Cost],
     ) -> Result<B::Cost, SheetFault>
-        ensures carried { Carried (meaning self.old.book) B.Cost.Amount.le self.old.state (Open total) (lent minutes.old amounts.old) (timed B.Cost.Amount.row result) self.new.state }
+        ensures carried { Carried (B.meaning self.old.book) B.Cost.Amount.le self.old.state (Open total) (lent minutes.old amounts.old) (timed B.Cost.Amount.row result) self.new.state }
         ensures over { self.new.book ≡ self.old.book }
         ensures unwritten { OnErr result ((self.new.state ≡ self.old.state) × (minutes.new ≡ minutes.old) × (amounts.new ≡ amounts.old)) }
     {
@@ -55,7 +55,7 @@ impl<B: Book> Sheet<B> {
         minutes: &mut [u16],
         amounts: &mut [B::Cost],
     ) -> Result<B::Cost, SheetFault>
-        ensures carried { Carried (meaning self.old.book) B.Cost.Amount.le self.old.state (Bounds leg low high) (lent minutes.old amounts.old) (timed B.Cost.Amount.row result) self.new.state }
+        ensures carried { Carried (B.meaning self.old.book) B.Cost.Amount.le self.old.state (Bounds leg low high) (lent minutes.old amounts.old) (timed B.Cost.Amount.row result) self.new.state }
         ensures over { self.new.book ≡ self.old.book }
         ensures unwritten { OnErr result ((self.new.state ≡ self.old.state) × (minutes.new ≡ minutes.old) × (amounts.new ≡ amounts.old)) }
     {
@@ -71,7 +71,7 @@ impl<B: Book> Sheet<B> {
         minutes: &mut [u16],
         amounts: &mut [B::Cost],
     ) -> Result<B::Cost, SheetFault>
-        ensures carried { Carried (meaning self.old.book) B.Cost.Amount.le self.old.state (Window stop low high) (lent minutes.old amounts.old) (timed B.Cost.Amount.row result) self.new.state }
+        ensures carried { Carried (B.meaning self.old.book) B.Cost.Amount.le self.old.state (Window stop low high) (lent minutes.old amounts.old) (timed B.Cost.Amount.row result) self.new.state }
         ensures over { self.new.book ≡ self.old.book }
         ensures unwritten { OnErr result ((self.new.state ≡ self.old.state) × (minutes.new ≡ minutes.old) × (amounts.new ≡ amounts.old)) }
     {
@@ -85,10 +85,10 @@ impl<B: Book> Sheet<B> {
         minutes: &mut [u16],
         amounts: &mut [B::Cost],
     ) -> Result<B::Cost, SheetFault>
-        ensures carried { Carried (meaning self.old.book) B.Cost.Amount.le self.old.state (Lift stop) (lent minutes.old amounts.old) (timed B.Cost.Amount.row result) self.new.state }
+        ensures carried { Carried (B.meaning self.old.book) B.Cost.Amount.le self.old.state (Lift stop) (lent minutes.old amounts.old) (timed B.Cost.Amount.row result) self.new.state }
         ensures over { self.new.book ≡ self.old.book }
         ensures unwritten { OnErr result ((self.new.state ≡ self.old.state) × (minutes.new ≡ minutes.old) × (amounts.new ≡ amounts.old)) }
-        ensures stays { Sound (meaning self.old.book) B.Cost.Amount.le self.old.state → IfErr result (λ f. (told f).number ≢ 16) }
+        ensures stays { Sound (B.meaning self.old.book) B.Cost.Amount.le self.old.state → IfErr result (λ f. (told f).number ≢ 16) }
     {
         self.timed(Call::Lift { stop }, minutes, amounts)
     }
@@ -100,7 +100,7 @@ impl<B: Book> Sheet<B> {
         minutes: &mut [u16],
         amounts: &mut [B::Cost],
     ) -> Result<B::Cost, SheetFault>
-        ensures carried { Carried (meaning self.old.book) B.Cost.Amount.le self.old.state (Total total) (lent minutes.old amounts.old) (timed B.Cost.Amount.row result) self.new.state }
+        ensures carried { Carried (B.meaning self.old.book) B.Cost.Amount.le self.old.state (Total total) (lent minutes.old amounts.old) (timed B.Cost.Amount.row result) self.new.state }
         ensures over { self.new.book ≡ self.old.book }
         ensures unwritten { OnErr result ((self.new.state ≡ self.old.state) × (minutes.new ≡ minutes.old) × (amounts.new ≡ amounts.old)) }
     {
@@ -109,7 +109,7 @@ impl<B: Book> Sheet<B> {
 
     // Makes the sheet blank.
     pub fn close(&mut self) -> Result<(), SheetFault>
-        ensures carried { (areas : Areas) → Carried (meaning self.old.book) B.Cost.Amount.le self.old.state Close areas (shut result) self.new.state }
+        ensures carried { (areas : Areas) → Carried (B.meaning self.old.book) B.Cost.Amount.le self.old.state Close areas (shut result) self.new.state }
         ensures over { self.new.book ≡ self.old.book }
         ensures unwritten { OnErr result (self.new.state ≡ self.old.state) }
     {
@@ -118,7 +118,7 @@ impl<B: Book> Sheet<B> {
 
     // The minutes of a leg; absent on a blank sheet or for a leg that is not there.
     pub fn minutes(&self, leg: u8) -> Option<u16>
-        ensures { MatchOption result (Stands (reading self.now.state) × IsLeg (meaning self.now.book) leg → ⊥) (λ m. Stands (reading self.now.state) × IsLeg (meaning self.now.book) leg × (m ≡ minutes_of self.now.state leg)) }
+        ensures { MatchOption result (Stands (reading self.now.state) × IsLeg (B.meaning self.now.book) leg → ⊥) (λ m. Stands (reading self.now.state) × IsLeg (B.meaning self.now.book) leg × (m ≡ minutes_of self.now.state leg)) }
     {
         let Some(place) = self.place(leg) else {
             return None;
@@ -128,7 +128,7 @@ impl<B: Book> Sheet<B> {
 
     // The price of a leg, as the leg and minute that name it; absent on a blank sheet or for a leg that is not there.
     pub fn price(&self, leg: u8) -> Option<Price>
-        ensures { MatchOption result (Stands (reading self.now.state) × IsLeg (meaning self.now.book) leg → ⊥) (λ p. Stands (reading self.now.state) × IsLeg (meaning self.now.book) leg × (p ≡ prices_of self.now.state leg)) }
+        ensures { MatchOption result (Stands (reading self.now.state) × IsLeg (B.meaning self.now.book) leg → ⊥) (λ p. Stands (reading self.now.state) × IsLeg (B.meaning self.now.book) leg × (p ≡ prices_of self.now.state leg)) }
     {
         let Some(place) = self.place(leg) else {
             return None;
@@ -138,7 +138,7 @@ impl<B: Book> Sheet<B> {
 
     // The cost of the timing that stands; absent on a blank sheet.
     pub fn cost(&self) -> Option<B::Cost>
-        ensures { Sound (meaning self.now.book) B.Cost.Amount.le self.now.state → MatchOption result (Stands (reading self.now.state) → ⊥) (λ a. Stands (reading self.now.state) × (B.Cost.Amount.row a ≡ cost_of_timing (meaning self.now.book) (minutes_of self.now.state))) }
+        ensures { Sound (B.meaning self.now.book) B.Cost.Amount.le self.now.state → MatchOption result (Stands (reading self.now.state) → ⊥) (λ a. Stands (reading self.now.state) × (B.Cost.Amount.row a ≡ cost_of_timing (B.meaning self.now.book) (minutes_of self.now.state))) }
     {
         let Some(cost) = self.state.cost(&self.book) else {
             return None;
@@ -154,7 +154,7 @@ impl<B: Book> Sheet<B> {
         amounts: &mut [B::Cost],
     ) -> Result<B::Cost, SheetFault>
         requires { Times call }
-        ensures carried { Carried (meaning self.old.book) B.Cost.Amount.le self.old.state call (lent minutes.old amounts.old) (timed B.Cost.Amount.row result) self.new.state }
+        ensures carried { Carried (B.meaning self.old.book) B.Cost.Amount.le self.old.state call (lent minutes.old amounts.old) (timed B.Cost.Amount.row result) self.new.state }
         ensures over { self.new.book ≡ self.old.book }
         ensures unwritten { OnErr result ((self.new.state ≡ self.old.state) × (minutes.new ≡ minutes.old) × (amounts.new ≡ amounts.old)) }
     {
@@ -164,7 +164,7 @@ impl<B: Book> Sheet<B> {
 
     // Where a leg stands in the arrays; absent on a blank sheet or for a leg that the book does not have.
     fn place(&self, leg: u8) -> Option<usize>
-        ensures { MatchOption result (Stands (reading self.now.state) × IsLeg (meaning self.now.book) leg → ⊥) (λ i. Stands (reading self.now.state) × IsLeg (meaning self.now.book) leg × (i ≡ leg) × (i < 65)) }
+        ensures { MatchOption result (Stands (reading self.now.state) × IsLeg (B.meaning self.now.book) leg → ⊥) (λ i. Stands (reading self.now.state) × IsLeg (B.meaning self.now.book) leg × (i ≡ leg) × (i < 65)) }
     {
         self.book.keeps_laws();
         if !self.state.standing {

@@ -8,7 +8,7 @@ use books::Book;
 
 // Whether the bounds of every leg are in order and within its ends.
 fn bounds_fit<B: Book>(book: &B, plan: &Plan) -> bool
-    ensures { MatchBool result ((i : ℕ) → IsLeg (meaning book.now) i → BoundsFit (meaning book.now) (settings plan.now) i) (((i : ℕ) → IsLeg (meaning book.now) i → BoundsFit (meaning book.now) (settings plan.now) i) → ⊥) }
+    ensures { MatchBool result ((i : ℕ) → IsLeg (B.meaning book.now) i → BoundsFit (B.meaning book.now) (settings plan.now) i) (((i : ℕ) → IsLeg (B.meaning book.now) i → BoundsFit (B.meaning book.now) (settings plan.now) i) → ⊥) }
 {
     book.keeps_laws();
     for k in 0..book.legs() {
@@ -38,7 +38,7 @@ fn windows_fit(plan: &Plan, legs: usize) -> bool
 
 // Whether a plan is one that fits a book.
 pub(crate) fn lawful<B: Book>(book: &B, plan: &Plan) -> bool
-    ensures { MatchBool result (Lawful (meaning book.now) (settings plan.now)) (Lawful (meaning book.now) (settings plan.now) → ⊥) }
+    ensures { MatchBool result (Lawful (B.meaning book.now) (settings plan.now)) (Lawful (B.meaning book.now) (settings plan.now) → ⊥) }
 {
     book.keeps_laws();
     let legs = book.legs();

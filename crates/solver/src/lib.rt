@@ -1,4 +1,6 @@
 // Finds a cheapest timing for a plan over any book, with prices that show it to be cheapest.
+#![tactic(auto)]
+
 ghost use Rattle.std.specs.Prelude.{◌≡◌};
 ghost use Rattle.solver.specs.Plans.{settings};
 ghost use Rattle.solver.specs.Outcomes.{Solves, Unsolved};
@@ -37,7 +39,7 @@ pub enum Outcome {
 
 // Solves a plan over a book. The area is room for steps, used as far as it reaches; it is written only if there is a timing.
 pub fn solve<B: Book>(book: &B, plan: &Plan, steps: &mut [B::Cost]) -> Outcome
-    ensures solves { Solves (meaning book.now) B.Cost.Amount.le (settings plan.now) result }
+    ensures solves { Solves (B.meaning book.now) B.Cost.Amount.le (settings plan.now) result }
     ensures unwritten { Unsolved result → steps.new ≡ steps.old }
 {
     if !lawful(book, plan) {

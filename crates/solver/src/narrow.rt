@@ -32,9 +32,9 @@ fn raise<B: Book>(
     done: usize,
     steps: &mut [B::Cost],
 )
-    requires done_bound { (done + 1 ≤ (meaning book.now).legs) × (length low.old ≡ 65) × (length high.now ≡ 65) }
-    requires fits { Fits (meaning book.now) (settings plan.now) × Boxed (meaning book.now) B.Cost.Amount.le (settings plan.now) (at low.old) (at high.now) done }
-    ensures { Boxed (meaning book.now) B.Cost.Amount.le (settings plan.now) (at low.new) (at high.now) done × (earliest (meaning book.now).legs (settings plan.now) (done + 1) ≤ reached (at low.new) (done + 1)) }
+    requires done_bound { (done + 1 ≤ (B.meaning book.now).legs) × (length low.old ≡ 65) × (length high.now ≡ 65) }
+    requires fits { Fits (B.meaning book.now) (settings plan.now) × Boxed (B.meaning book.now) B.Cost.Amount.le (settings plan.now) (at low.old) (at high.now) done }
+    ensures { Boxed (B.meaning book.now) B.Cost.Amount.le (settings plan.now) (at low.new) (at high.now) done × (earliest (B.meaning book.now).legs (settings plan.now) (done + 1) ≤ reached (at low.new) (done + 1)) }
 {
     book.keeps_laws();
     let stop = done + 1;
@@ -62,9 +62,9 @@ fn lower<B: Book>(
     done: usize,
     steps: &mut [B::Cost],
 )
-    requires done_bound { (done + 1 ≤ (meaning book.now).legs) × (length low.now ≡ 65) × (length high.old ≡ 65) }
-    requires fits { Fits (meaning book.now) (settings plan.now) × Boxed (meaning book.now) B.Cost.Amount.le (settings plan.now) (at low.now) (at high.old) done }
-    ensures { Boxed (meaning book.now) B.Cost.Amount.le (settings plan.now) (at low.now) (at high.new) done × Closed (meaning book.now) (settings plan.now) (at high.new) (done + 1) }
+    requires done_bound { (done + 1 ≤ (B.meaning book.now).legs) × (length low.now ≡ 65) × (length high.old ≡ 65) }
+    requires fits { Fits (B.meaning book.now) (settings plan.now) × Boxed (B.meaning book.now) B.Cost.Amount.le (settings plan.now) (at low.now) (at high.old) done }
+    ensures { Boxed (B.meaning book.now) B.Cost.Amount.le (settings plan.now) (at low.now) (at high.new) done × Closed (B.meaning book.now) (settings plan.now) (at high.new) (done + 1) }
 {
     book.keeps_laws();
     let stop = done + 1;
@@ -92,9 +92,9 @@ pub(crate) fn narrow<B: Book>(
     limits: Limits,
     steps: &mut [B::Cost],
 ) -> [u16; 65]
-    requires bound { (1 ≤ (meaning book.now).legs) × Fits (meaning book.now) (settings plan.now) }
-    requires boxed { Boxed (meaning book.now) B.Cost.Amount.le (settings plan.now) (at limits.low) (at limits.high) 0 }
-    ensures { Cheapest (meaning book.now) B.Cost.Amount.le (settings plan.now) (at result) }
+    requires bound { (1 ≤ (B.meaning book.now).legs) × Fits (B.meaning book.now) (settings plan.now) }
+    requires boxed { Boxed (B.meaning book.now) B.Cost.Amount.le (settings plan.now) (at limits.low) (at limits.high) 0 }
+    ensures { Cheapest (B.meaning book.now) B.Cost.Amount.le (settings plan.now) (at result) }
 {
     let mut low = limits.low;
     let mut high = limits.high;

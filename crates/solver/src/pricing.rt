@@ -18,8 +18,8 @@ const ZERO: Price = Price { leg: 0, minute: 0 };
 
 // The amount that a price is worth.
 fn value<B: Book>(book: &B, price: Price) -> B::Cost
-    requires { Named (meaning book.now) price }
-    ensures { B.Cost.Amount.row result ≡ worth (meaning book.now) price }
+    requires { Named (B.meaning book.now) price }
+    ensures { B.Cost.Amount.row result ≡ worth (B.meaning book.now) price }
 {
     if price.leg == 0 {
         return B::Cost::zero();
@@ -29,8 +29,8 @@ fn value<B: Book>(book: &B, price: Price) -> B::Cost
 
 // The greater of two prices.
 fn greater<B: Book>(book: &B, old: Price, new: Price) -> Price
-    requires { Named (meaning book.now) old × Named (meaning book.now) new }
-    ensures { ((result ≡ old) × Cost-as-Amount.le (worth (meaning book.now) new) (worth (meaning book.now) old)) ⊎ ((result ≡ new) × Cost-as-Amount.le (worth (meaning book.now) old) (worth (meaning book.now) new)) }
+    requires { Named (B.meaning book.now) old × Named (B.meaning book.now) new }
+    ensures { ((result ≡ old) × B.Cost.Amount.le (worth (B.meaning book.now) new) (worth (B.meaning book.now) old)) ⊎ ((result ≡ new) × B.Cost.Amount.le (worth (B.meaning book.now) old) (worth (B.meaning book.now) new)) }
 {
     if value(book, new).at_most(value(book, old)) {
         old
@@ -41,8 +41,8 @@ fn greater<B: Book>(book: &B, old: Price, new: Price) -> Price
 
 // The least next step of all legs that can be longer, as a price; zero if there is none.
 fn base<B: Book>(book: &B, plan: &Plan, minutes: &[u16], steps: &mut [B::Cost]) -> Price
-    requires { Timed (meaning book.now) B.Cost.Amount.le plan.now minutes.now }
-    ensures { Floor (meaning book.now) B.Cost.Amount.le (settings plan.now) (at minutes.now) result }
+    requires { Timed (B.meaning book.now) B.Cost.Amount.le plan.now minutes.now }
+    ensures { Floor (B.meaning book.now) B.Cost.Amount.le (settings plan.now) (at minutes.now) result }
 {
     book.keeps_laws();
     let legs = book.legs();
@@ -58,8 +58,8 @@ fn base<B: Book>(book: &B, plan: &Plan, minutes: &[u16], steps: &mut [B::Cost]) 
 
 // The first price of a leg: the greater of the base and the step that the leg took last.
 fn first_price<B: Book>(book: &B, plan: &Plan, minutes: &[u16], base: Price, leg: usize) -> Price
-    requires { IsLeg (meaning book.now) leg × Timed (meaning book.now) Cost-as-Amount.le plan.now minutes.now × Floor (meaning book.now) Cost-as-Amount.le (settings plan.now) (at minutes.now) base }
-    ensures { Fair (meaning book.now) Cost-as-Amount.le (settings plan.now) (at minutes.now) leg result }
+    requires { IsLeg (B.meaning book.now) leg × Timed (B.meaning book.now) B.Cost.Amount.le plan.now minutes.now × Floor (B.meaning book.now) B.Cost.Amount.le (settings plan.now) (at minutes.now) base }
+    ensures { Fair (B.meaning book.now) B.Cost.Amount.le (settings plan.now) (at minutes.now) leg result }
 {
     book.keeps_laws();
     if minutes[leg] <= plan.low[leg] {
@@ -74,8 +74,8 @@ fn first_price<B: Book>(book: &B, plan: &Plan, minutes: &[u16], base: Price, leg
 
 // The first prices of all legs.
 fn first_prices<B: Book>(book: &B, plan: &Plan, minutes: &[u16], base: Price) -> [Price; 65]
-    requires { Timed (meaning book.now) Cost-as-Amount.le plan.now minutes.now × Floor (meaning book.now) Cost-as-Amount.le (settings plan.now) (at minutes.now) base }
-    ensures { FairUp (meaning book.now) Cost-as-Amount.le (settings plan.now) (at minutes.now) (meaning book.now).legs result }
+    requires { Timed (B.meaning book.now) B.Cost.Amount.le plan.now minutes.now × Floor (B.meaning book.now) B.Cost.Amount.le (settings plan.now) (at minutes.now) base }
+    ensures { FairUp (B.meaning book.now) B.Cost.Amount.le (settings plan.now) (at minutes.now) (B.meaning book.now).legs result }
 {
     book.keeps_laws();
     let mut prices = [base; 65];
@@ -87,9 +87,9 @@ fn first_prices<B: Book>(book: &B, plan: &Plan, minutes: &[u16], base: Price) ->
 
 // Carries prices to the right over every stop that is reached after its window opens: no price falls there.
 fn carry_right<B: Book>(book: &B, plan: &Plan, minutes: &[u16], prices: &mut [Price])
-    requires { (length minutes.now ≡ 65) × (length prices.old ≡ 65) × FairUp (meaning book.now) Cost-as-Amount.le (settings plan.now) (at minutes.now) (meaning book.now).legs prices.old }
-    ensures fair { FairUp (meaning book.now) Cost-as-Amount.le (settings plan.now) (at minutes.now) (meaning book.now).legs prices.new }
-    ensures rises { (k : ℕ) → 1 ≤ k → k < (meaning book.now).legs → Rises (meaning book.now) Cost-as-Amount.le (settings plan.now) (at minutes.now) prices.new k }
+    requires { (length minutes.now ≡ 65) × (length prices.old ≡ 65) × FairUp (B.meaning book.now) B.Cost.Amount.le (settings plan.now) (at minutes.now) (B.meaning book.now).legs prices.old }
+    ensures fair { FairUp (B.meaning book.now) B.Cost.Amount.le (settings plan.now) (at minutes.now) (B.meaning book.now).legs prices.new }
+    ensures rises { (k : ℕ) → 1 ≤ k → k < (B.meaning book.now).legs → Rises (B.meaning book.now) B.Cost.Amount.le (settings plan.now) (at minutes.now) prices.new k }
 {
     book.keeps_laws();
     let legs = book.legs();
@@ -102,11 +102,11 @@ fn carry_right<B: Book>(book: &B, plan: &Plan, minutes: &[u16], prices: &mut [Pr
 
 // Carries prices to the left over every stop that is reached before its window shuts: no price rises there.
 fn carry_left<B: Book>(book: &B, plan: &Plan, minutes: &[u16], prices: &mut [Price])
-    requires minutes_len { (length minutes.now ≡ 65) × (length prices.old ≡ 65) × FairUp (meaning book.now) Cost-as-Amount.le (settings plan.now) (at minutes.now) (meaning book.now).legs prices.old }
-    requires by_index { (k : ℕ) → 1 ≤ k → k < (meaning book.now).legs → Rises (meaning book.now) Cost-as-Amount.le (settings plan.now) (at minutes.now) prices.old k }
-    ensures fair { FairUp (meaning book.now) Cost-as-Amount.le (settings plan.now) (at minutes.now) (meaning book.now).legs prices.new }
-    ensures rises { (k : ℕ) → 1 ≤ k → k < (meaning book.now).legs → Rises (meaning book.now) Cost-as-Amount.le (settings plan.now) (at minutes.now) prices.new k }
-    ensures falls { (k : ℕ) → 1 ≤ k → k < (meaning book.now).legs → Falls (meaning book.now) Cost-as-Amount.le (settings plan.now) (at minutes.now) prices.new k }
+    requires fair { (length minutes.now ≡ 65) × (length prices.old ≡ 65) × FairUp (B.meaning book.now) B.Cost.Amount.le (settings plan.now) (at minutes.now) (B.meaning book.now).legs prices.old }
+    requires rises { (k : ℕ) → 1 ≤ k → k < (B.meaning book.now).legs → Rises (B.meaning book.now) B.Cost.Amount.le (settings plan.now) (at minutes.now) prices.old k }
+    ensures fair { FairUp (B.meaning book.now) B.Cost.Amount.le (settings plan.now) (at minutes.now) (B.meaning book.now).legs prices.new }
+    ensures rises { (k : ℕ) → 1 ≤ k → k < (B.meaning book.now).legs → Rises (B.meaning book.now) B.Cost.Amount.le (settings plan.now) (at minutes.now) prices.new k }
+    ensures falls { (k : ℕ) → 1 ≤ k → k < (B.meaning book.now).legs → Falls (B.meaning book.now) B.Cost.Amount.le (settings plan.now) (at minutes.now) prices.new k }
 {
     book.keeps_laws();
     let legs = book.legs();
@@ -124,8 +124,8 @@ pub(crate) fn prices<B: Book>(
     minutes: &[u16],
     steps: &mut [B::Cost],
 ) -> [Price; 65]
-    requires { Timed (meaning book.now) B.Cost.Amount.le plan.now minutes.now }
-    ensures { PriceRule (meaning book.now) B.Cost.Amount.le (settings plan.now) (at minutes.now) (price_at result) }
+    requires { Timed (B.meaning book.now) B.Cost.Amount.le plan.now minutes.now }
+    ensures { PriceRule (B.meaning book.now) B.Cost.Amount.le (settings plan.now) (at minutes.now) (price_at result) }
 {
     book.keeps_laws();
     let base = base(book, plan, minutes, steps);

@@ -9,8 +9,8 @@ use books::Book;
 
 // What one minute more than these costs on a leg.
 pub(crate) fn step_from<B: Book>(book: &B, leg: usize, minute: u16) -> B::Cost
-    requires { Stepped (meaning book.now) leg minute }
-    ensures { B.Cost.Amount.row result ≡ step (meaning book.now) leg minute }
+    requires { Stepped (B.meaning book.now) leg minute }
+    ensures { B.Cost.Amount.row result ≡ step (B.meaning book.now) leg minute }
 {
     book.keeps_laws();
     let after = book.cost(leg, minute + 1).unwrap();
@@ -70,8 +70,8 @@ pub(crate) fn gather<B: Book>(
     steps: &mut [B::Cost],
 )
     requires legs_in_bounds { (legs < length low.now) × (legs < length high.now) }
-    requires steps { Steps (meaning book.now) way (at low.now) (at high.now) legs }
-    ensures { AtHand B.Cost.Amount.row (meaning book.now) way (at low.now) (at high.now) legs steps.new }
+    requires steps { Steps (B.meaning book.now) way (at low.now) (at high.now) legs }
+    ensures { AtHand B.Cost.Amount.row (B.meaning book.now) way (at low.now) (at high.now) legs steps.new }
 {
     for k in 0..legs {
         refresh(way, book, low, high, k + 1, steps);
@@ -87,8 +87,8 @@ pub(crate) fn refresh<B: Book>(
     leg: usize,
     steps: &mut [B::Cost],
 )
-    requires { (leg < length low.now) × (leg < length high.now) × (at low.now leg < at high.now leg → Stepped (meaning book.now) leg (edge_of way (at low.now leg) (at high.now leg))) }
-    ensures { (k : ℕ) → AtHandBut B.Cost.Amount.row (meaning book.now) way (at low.now) (at high.now) k leg steps.old → AtHand B.Cost.Amount.row (meaning book.now) way (at low.now) (at high.now) k steps.new }
+    requires { (leg < length low.now) × (leg < length high.now) × (at low.now leg < at high.now leg → Stepped (B.meaning book.now) leg (edge_of way (at low.now leg) (at high.now leg))) }
+    ensures { (k : ℕ) → AtHandBut B.Cost.Amount.row (B.meaning book.now) way (at low.now) (at high.now) k leg steps.old → AtHand B.Cost.Amount.row (B.meaning book.now) way (at low.now) (at high.now) k steps.new }
 {
     if leg < steps.len() && low[leg] < high[leg] {
         steps[leg] = step_from(book, leg, edge(way, low[leg], high[leg]));
@@ -105,8 +105,8 @@ fn edge_step<B: Book>(
     steps: &[B::Cost],
 ) -> B::Cost
     requires leg_in_bounds { (leg < length low.now) × (leg < length high.now) × (1 ≤ leg) × (at low.now leg < at high.now leg) }
-    requires steps { Steps (meaning book.now) way (at low.now) (at high.now) leg × AtHand B.Cost.Amount.row (meaning book.now) way (at low.now) (at high.now) leg steps.now }
-    ensures { B.Cost.Amount.row result ≡ edge_row (meaning book.now) way (at low.now) (at high.now) leg }
+    requires steps { Steps (B.meaning book.now) way (at low.now) (at high.now) leg × AtHand B.Cost.Amount.row (B.meaning book.now) way (at low.now) (at high.now) leg steps.now }
+    ensures { B.Cost.Amount.row result ≡ edge_row (B.meaning book.now) way (at low.now) (at high.now) leg }
 {
     if leg < steps.len() {
         return steps[leg];
@@ -124,8 +124,8 @@ pub(crate) fn leader<B: Book>(
     steps: &[B::Cost],
 ) -> Option<usize>
     requires legs_in_bounds { (legs < length low.now) × (legs < length high.now) }
-    requires steps { Steps (meaning book.now) way (at low.now) (at high.now) legs × AtHand B.Cost.Amount.row (meaning book.now) way (at low.now) (at high.now) legs steps.now }
-    ensures { MatchOption result (NoneOpen (at low.now) (at high.now) legs) (λ i. Leads (Before way B.Cost.Amount.le) (edge_row (meaning book.now) way (at low.now) (at high.now)) (at low.now) (at high.now) legs i) }
+    requires steps { Steps (B.meaning book.now) way (at low.now) (at high.now) legs × AtHand B.Cost.Amount.row (B.meaning book.now) way (at low.now) (at high.now) legs steps.now }
+    ensures { MatchOption result (NoneOpen (at low.now) (at high.now) legs) (λ i. Leads (Before way B.Cost.Amount.le) (edge_row (B.meaning book.now) way (at low.now) (at high.now)) (at low.now) (at high.now) legs i) }
 {
     let mut best = None;
     for k in 0..legs {
@@ -151,8 +151,8 @@ pub(crate) fn choose<B: Book>(
     steps: &[B::Cost],
 ) -> usize
     requires legs_in_bounds { (legs < length low.now) × (legs < length high.now) × (NoneOpen (at low.now) (at high.now) legs → ⊥) }
-    requires steps { Steps (meaning book.now) way (at low.now) (at high.now) legs × AtHand B.Cost.Amount.row (meaning book.now) way (at low.now) (at high.now) legs steps.now }
-    ensures { Leads (Before way B.Cost.Amount.le) (edge_row (meaning book.now) way (at low.now) (at high.now)) (at low.now) (at high.now) legs result }
+    requires steps { Steps (B.meaning book.now) way (at low.now) (at high.now) legs × AtHand B.Cost.Amount.row (B.meaning book.now) way (at low.now) (at high.now) legs steps.now }
+    ensures { Leads (Before way B.Cost.Amount.le) (edge_row (B.meaning book.now) way (at low.now) (at high.now)) (at low.now) (at high.now) legs result }
 {
     leader(way, book, low, high, legs, steps).unwrap()
 }

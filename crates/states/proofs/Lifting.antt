@@ -1,7 +1,6 @@
 -- A lift leaves the timing that stands. Assumes nothing.
-use Rattle.std.proofs.Common.{◌≡◌, ℕ, zero, suc, ◌+◌, ◌-◌, ◌≤◌, Bool, true, false, IfErr, Ok, Err, Result, sym, refl, ap, ◌∙◌, subst, ⊎_elim, add-zero, arith}
+use Rattle.std.proofs.Common.{◌≡◌, ℕ, ◌≤◌, Bool, true, false, IfErr, Ok, Err, Result, sym, refl, ap, ◌∙◌, ⊎_elim, arith}
 use Rattle.std.proofs.lemmas.Bool.Decides.{nat_tests}
-use Rattle.std.specs.Vec as results
 use Rattle.amounts.specs.Rows.{Row}
 use Rattle.board.specs.Rules.{Clear, Broken}
 use Rattle.board.specs.declared.Refusal.{Refusal}

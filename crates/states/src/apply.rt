@@ -40,7 +40,7 @@ impl State {
         amounts: &mut [B::Cost],
     ) -> Result<B::Cost, SheetFault>
         requires { Times call }
-        ensures carried { Carried (meaning book.now) B.Cost.Amount.le self.old call (lent minutes.old amounts.old) (timed B.Cost.Amount.row result) self.new }
+        ensures carried { Carried (B.meaning book.now) B.Cost.Amount.le self.old call (lent minutes.old amounts.old) (timed B.Cost.Amount.row result) self.new }
         ensures unwritten { OnErr result ((self.new ≡ self.old) × (minutes.new ≡ minutes.old) × (amounts.new ≡ amounts.old)) }
     {
         book.keeps_laws();
@@ -58,7 +58,7 @@ impl State {
 
     // Answers a close as the register does: the sheet is blank after it, or was blank before.
     pub fn close<B: Book>(&mut self, book: &B) -> Result<(), SheetFault>
-        ensures carried { (areas : Areas) → Carried (meaning book.now) B.Cost.Amount.le self.old Close areas (shut result) self.new }
+        ensures carried { (areas : Areas) → Carried (B.meaning book.now) B.Cost.Amount.le self.old Close areas (shut result) self.new }
         ensures unwritten { OnErr result (self.new ≡ self.old) }
     {
         self.admit(book, Call::Close, 0, 0)?;
@@ -74,7 +74,7 @@ impl State {
         minutes: &mut [u16],
         amounts: &mut [B::Cost],
     ) -> Result<Option<B::Cost>, SheetFault>
-        ensures carried { Carried (meaning book.now) B.Cost.Amount.le self.old call (lent minutes.old amounts.old) (reply B.Cost.Amount.row result) self.new }
+        ensures carried { Carried (B.meaning book.now) B.Cost.Amount.le self.old call (lent minutes.old amounts.old) (reply B.Cost.Amount.row result) self.new }
         ensures unwritten { OnErr result ((self.new ≡ self.old) × (minutes.new ≡ minutes.old) × (amounts.new ≡ amounts.old)) }
         ensures costs { IfOk result (λ cost. MatchOption cost (Times call → ⊥) (λ _. Times call)) }
     {
@@ -88,7 +88,7 @@ impl State {
 
     // The cost of the timing that stands; absent on a blank sheet.
     pub fn cost<B: Book>(&self, book: &B) -> Option<B::Cost>
-        ensures { Sound (meaning book.now) B.Cost.Amount.le self.now → MatchOption result (Stands (reading self.now) → ⊥) (λ a. Stands (reading self.now) × (B.Cost.Amount.row a ≡ cost_of_timing (meaning book.now) (minutes_of self.now))) }
+        ensures { Sound (B.meaning book.now) B.Cost.Amount.le self.now → MatchOption result (Stands (reading self.now) → ⊥) (λ a. Stands (reading self.now) × (B.Cost.Amount.row a ≡ cost_of_timing (B.meaning book.now) (minutes_of self.now))) }
     {
         if !self.standing {
             return None;

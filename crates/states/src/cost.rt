@@ -9,7 +9,7 @@ use books::Book;
 
 // What these minutes cost on the legs 1, 2 and so on; absent exactly if the book has no cost for one of them.
 pub(crate) fn cost_of<B: Book>(book: &B, minutes: &[u16]) -> Option<B::Cost>
-    ensures { MatchOption result (AllPriced (meaning book.now) minutes.now → ⊥) (λ a. AllPriced (meaning book.now) minutes.now × (B.Cost.Amount.row a ≡ spent (meaning book.now) (flown minutes.now) (length minutes.now))) }
+    ensures { MatchOption result (AllPriced (B.meaning book.now) minutes.now → ⊥) (λ a. AllPriced (B.meaning book.now) minutes.now × (B.Cost.Amount.row a ≡ spent (B.meaning book.now) (flown minutes.now) (length minutes.now))) }
 {
     book.keeps_laws();
     let mut total = B::Cost::zero();
@@ -23,7 +23,7 @@ pub(crate) fn cost_of<B: Book>(book: &B, minutes: &[u16]) -> Option<B::Cost>
 // What a timing costs, its minutes by the number of the leg: the sum over the slice of its minutes, from leg 1 to the last.
 pub(crate) fn timing_cost<B: Book>(book: &B, minutes: &[u16]) -> Option<B::Cost>
     requires { length minutes.now ≡ 65 }
-    ensures { MatchOption result (Affordable (meaning book.now) (at minutes.now) → ⊥) (λ a. B.Cost.Amount.row a ≡ cost_of_timing (meaning book.now) (at minutes.now)) }
+    ensures { MatchOption result (Affordable (B.meaning book.now) (at minutes.now) → ⊥) (λ a. B.Cost.Amount.row a ≡ cost_of_timing (B.meaning book.now) (at minutes.now)) }
 {
     book.keeps_laws();
     cost_of(book, &minutes[1..book.legs() + 1])

@@ -1,4 +1,6 @@
 // The plain state of a sheet: its settings, a cheapest timing and its prices, and how a call changes them.
+#![tactic(auto)]
+
 mod apply;
 mod cost;
 mod plans;

@@ -8,7 +8,7 @@ use solver::Plan;
 
 // The plan of an open: the book's ends as bounds, and every window 0 to 4,095.
 pub(crate) fn opened_plan<B: Book>(book: &B, total: u16) -> Plan
-    ensures { settings result ≡ opened (meaning book.now) total }
+    ensures { settings result ≡ opened (B.meaning book.now) total }
 {
     book.keeps_laws();
     let mut low = [0; 65];

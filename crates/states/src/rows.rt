@@ -21,7 +21,7 @@ pub(crate) fn times(call: Call) -> bool
 
 // Row 11: an open on a book with no leg, a leg not 1 to n, or a stop not 1 to n - 1.
 pub(crate) fn elsewhere<B: Book>(book: &B, call: Call) -> bool
-    ensures { Tells result (Elsewhere (meaning book.now) call) }
+    ensures { Tells result (Elsewhere (B.meaning book.now) call) }
 {
     let legs = book.legs();
     match call {
@@ -72,7 +72,7 @@ pub(crate) fn too_large(call: Call) -> bool
 
 // Row 14: bounds outside the book's ends. It is asked of a leg of the book alone.
 pub(crate) fn outside<B: Book>(book: &B, call: Call) -> bool
-    ensures { (Elsewhere (meaning book.now) call → ⊥) → Tells result (Outside (meaning book.now) call) }
+    ensures { (Elsewhere (B.meaning book.now) call → ⊥) → Tells result (Outside (B.meaning book.now) call) }
 {
     let Call::Bounds { leg, low, high } = call else {
         return false;

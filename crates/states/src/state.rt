@@ -45,8 +45,8 @@ impl State {
 
     // The plan that a call leaves: it sets what the call names, and every other setting stays.
     pub(crate) fn planned<B: Book>(&self, book: &B, call: Call) -> Plan
-        requires { (Unopened (reading self.now) call → ⊥) × (Elsewhere (meaning book.now) call → ⊥) }
-        ensures { settings result ≡ after (meaning book.now) (reading self.now) call }
+        requires { (Unopened (reading self.now) call → ⊥) × (Elsewhere (B.meaning book.now) call → ⊥) }
+        ensures { settings result ≡ after (B.meaning book.now) (reading self.now) call }
     {
         book.keeps_laws();
         match call {
@@ -83,7 +83,7 @@ impl State {
 
     // Row 15: a work area too short for the legs and the total after the call.
     fn cramped<B: Book>(&self, book: &B, call: Call, minutes: usize, amounts: usize) -> bool
-        ensures { (Unopened (reading self.now) call → ⊥) → Tells result (Cramped (meaning book.now) (reading self.now) call (record { minutes = minutes; amounts = amounts })) }
+        ensures { (Unopened (reading self.now) call → ⊥) → Tells result (Cramped (B.meaning book.now) (reading self.now) call (record { minutes = minutes; amounts = amounts })) }
     {
         book.keeps_laws();
         let room = self.total_after(call) as usize + 1;
@@ -98,7 +98,7 @@ impl State {
         minutes: usize,
         amounts: usize,
     ) -> Result<(), SheetFault>
-        ensures { MatchResult result (λ _. Clear (entry_rows (meaning book.now) (reading self.now) call (record { minutes = minutes; amounts = amounts }))) (λ f. Broken (entry_rows (meaning book.now) (reading self.now) call (record { minutes = minutes; amounts = amounts })) (told f)) }
+        ensures { MatchResult result (λ _. Clear (entry_rows (B.meaning book.now) (reading self.now) call (record { minutes = minutes; amounts = amounts }))) (λ f. Broken (entry_rows (B.meaning book.now) (reading self.now) call (record { minutes = minutes; amounts = amounts })) (told f)) }
     {
         let leg = call.leg();
         if self.standing && opens(call) {

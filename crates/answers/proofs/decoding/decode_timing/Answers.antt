@@ -19,15 +19,15 @@ pub returns : goal.returns
 returns c =
     let legs : ℕ = c.args.legs in
     let fields : List ℕ = c.args.fields.now in
-    let minutes : List ℕ = take legs c.take-minutes.new.minutes in
-    let kilograms : ℤ = c.wide-at.result in
-    let cents : ℤ = c.wide-at-2.result in
+    let minutes : List ℕ = take legs c.take_minutes.new.minutes in
+    let kilograms : ℤ = c.wide_at.result in
+    let cents : ℤ = c.wide_at-2.result in
     let fits : SFits w64 kilograms = search rules in
     let fits-2 : SFits w64 cents = search rules in
-    let count : length minutes ≡ legs = length-take-le legs c.take-minutes.new.minutes (omega arith) in
+    let count : length minutes ≡ legs = length-take-le legs c.take_minutes.new.minutes (omega arith) in
     let amounts : drop (2 * legs) fields ≡ wide kilograms (wide cents []) =
-    c.wide-at.ensures ∙ ap (wide kilograms) (c.wide-at-2.ensures ∙ ap (wide cents) (drop_all (2 * legs + 8 + 8) fields (omega arith))) in
+    c.wide_at.ensures ∙ ap (wide kilograms) (c.wide_at-2.ensures ∙ ap (wide cents) (drop_all (2 * legs + 8 + 8) fields (omega arith))) in
     let is : 0x81 ∷ legs ∷ fields ≡ 0x81 ∷ length minutes ∷ words minutes (wide kilograms (wide cents [])) =
-    ap (λ n. 0x81 ∷ n ∷ fields) (sym count) ∙ ap (λ t. 0x81 ∷ length minutes ∷ t) (c.take-minutes.ensures.read ∙ ap (words minutes) amounts) in
+    ap (λ n. 0x81 ∷ n ∷ fields) (sym count) ∙ ap (λ t. 0x81 ∷ length minutes ∷ t) (c.take_minutes.ensures.read ∙ ap (words minutes) amounts) in
     simp (to_z-of_z w64 kilograms fits, to_z-of_z w64 cents fits-2)
-    (is, (omega arith, c.take-minutes.ensures.fits, fits, fits-2), c.take-minutes.ensures.same)
+    (is, (omega arith, c.take_minutes.ensures.fits, fits, fits-2), c.take_minutes.ensures.same)

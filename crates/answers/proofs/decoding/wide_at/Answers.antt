@@ -5,6 +5,6 @@ use Rattle.answers.proofs.decoding.wide_at.Goals as goal
 
 pub returns : goal.returns
 returns c =
-    let fits : SFits w64 c.from-be-bytes.result = search rules in
-    simp (to_z-of_z w64 c.from-be-bytes.result fits)
-    (wide_at c.args.bytes.now c.type-inv.bytes c.args.at c.from-be-bytes.result c.requires c.from-be-bytes.ensures)
+    let fits : SFits w64 c.from_be_bytes.result = search rules in
+    simp (to_z-of_z w64 c.from_be_bytes.result fits)
+    (wide_at c.args.bytes.now c.type_inv.bytes c.args.at c.from_be_bytes.result c.requires c.from_be_bytes.ensures)

@@ -10,4 +10,4 @@ returns-in-Err c =
     IfOk-weaker c.format-in-Err.result (λ words. string_bytes words ≡ answer_words c.args.number (Err c.in-Err.fault))
     (λ words. Says c.args.number c.args.line.now (string_bytes words))
     (λ words is. (Err c.in-Err.fault, c.in-Err.ensures.answer, is))
-    (simp (number, c.fault-words-words.ensures) at c.format-in-Err.ensures.ok)
+    (simp (number, c.fault_words-words.ensures) at c.format-in-Err.ensures.ok)

@@ -7,8 +7,8 @@ use Rattle.frame_reader.proofs.words.report.Goals as goal
 
 pub loop-line-init : goal.loop-line-init
 loop-line-init c =
-    let cut = c.start-of.ensures in
-    let all = ap to_come c.into-iter-line-iterator.ensures.into-iter-gives ∙ c.new-line-items.ensures.all in (
+    let cut = c.start_of.ensures in
+    let all = ap to_come c.into_iter-line-iterator.ensures.into_iter_gives ∙ c.new-line-items.ensures.all in (
       λ rest said. subst (λ bytes. Reports 1 (lines_of (take 65535 c.args.text.now)) (bytes ++ rest)) (sym c.new-all.ensures.bytes)
           (subst (λ lines. Reports 1 lines rest) (all ∙ ap lines_of cut) said),
       omega (arith, ap length all, c.new-line-items.ensures.bound, ap length cut, length-take 65535 c.args.text.now),
@@ -17,10 +17,10 @@ loop-line-init c =
 pub loop-line-preserved : goal.loop-line-preserved
 loop-line-preserved c =
     let step = c.in-Some.ensures.steps in
-    let next : string_bytes c.push.new.self ≡ (string_bytes c.loop-line.all ++ string_bytes c.in-ok-words.words) ++ 10 ∷ [] =
+    let next : string_bytes c.push.new.self ≡ (string_bytes c.loop-line.all ++ string_bytes c.in_ok-words.words) ++ 10 ∷ [] =
     search rules in (
       report_more (Reports 1 (lines_of (take 65535 c.args.text.now))) c.loop-line.number _ _ c.loop-line.invariant.0
-          c.in-Some.line.now _ _ _ step c.in-ok-words.ensures next,
+          c.in-Some.line.now _ _ _ step c.in_ok-words.ensures next,
       omega (arith, c.loop-line.invariant.1, ap length step),
     )
 

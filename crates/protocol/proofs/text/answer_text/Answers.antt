@@ -12,10 +12,10 @@ use Rattle.protocol.proofs.text.answer_text.Goals as goal
 
 pub loop-line-init : goal.loop-line-init
 loop-line-init c =
-    let all = ap to_come c.into-iter-line-iterator.ensures.into-iter-gives ∙ c.new-line-items.ensures.all in (
+    let all = ap to_come c.into_iter-line-iterator.ensures.into_iter_gives ∙ c.new-line-items.ensures.all in (
       ([], sym (append-nil _), λ rest said. said),
       c.new-desk.ensures.sane,
-      omega (arith, ap length all, c.new-line-items.ensures.bound, ap length c.start-of.ensures, length-take 65535 c.args.text.now),
+      omega (arith, ap length all, c.new-line-items.ensures.bound, ap length c.start_of.ensures, length-take 65535 c.args.text.now),
       λ free. free,
     )
 
@@ -25,17 +25,17 @@ loop-line-preserved c =
     let same : lent c.loop-line.minutes c.loop-line.amounts ≡ room = λ i. record { minutes = c.loop-line.auto.minutes i; amounts = c.loop-line.auto.amounts i } in
     let n = c.loop-line.number + 1 in
     let step = c.in-Some.ensures.steps in
-    let wrote = c.in-ok-write.ensures in
+    let wrote = c.in_ok-write.ensures in
     let so_far = c.loop-line.invariant.0 in
-    let line = spelled (meant c.answer-of.result) ++ 10 ∷ [] in
+    let line = spelled (meant c.answer_of.result) ++ 10 ∷ [] in
     let told-as = reply told n c.answer-outcome.result in
     let answered = subst (λ areas. Line areas (stage c.loop-line.desk) c.in-Some.line.now told-as n (stage c.answer-outcome.new.self)) same (c.answer-outcome.ensures.line n) in (
       (
         so_far.0 ++ line,
         wrote.items ∙ ap (λ t. t ++ line) so_far.1 ∙ append_assoc (vec_items c.args.out.now) so_far.0 line,
-        answers_more (Answers room 1 (stage c.new-desk.result) (to_come c.into-iter-line-iterator.result)) room n (stage c.loop-line.desk) (to_come c.loop-line.line-iterator) so_far.0 so_far.2
-            c.in-Some.line.now (to_come c.next.new.self) (stage c.answer-outcome.new.self) told-as (meant c.answer-of.result) (so_far.0 ++ line)
-            step answered c.answer-of.ensures wrote.spells refl,
+        answers_more (Answers room 1 (stage c.new-desk.result) (to_come c.into_iter-line-iterator.result)) room n (stage c.loop-line.desk) (to_come c.loop-line.line-iterator) so_far.0 so_far.2
+            c.in-Some.line.now (to_come c.next.new.self) (stage c.answer-outcome.new.self) told-as (meant c.answer_of.result) (so_far.0 ++ line)
+            step answered c.answer_of.ensures wrote.spells refl,
       ),
       c.answer-outcome.ensures.sane,
       omega (arith, c.loop-line.invariant.2, ap length step),
@@ -47,7 +47,7 @@ loop-line-preserved c =
         wrote.short,
         ap length wrote.items,
         length-append (vec_items c.loop-line.out) line,
-        length-append (spelled (meant c.answer-of.result)) (10 ∷ []),
+        length-append (spelled (meant c.answer_of.result)) (10 ∷ []),
         c.loop-line.out.ok.0,
         c.write.new.text.ok.0,
       ),
@@ -57,8 +57,8 @@ pub returns : goal.returns
 returns c =
     let room = lent c.args.minutes.now c.args.amounts.now in
     let so_far = c.loop-line.invariant.0 in
-    let all : to_come c.into-iter-line-iterator.result ≡ lines_of (take 65535 c.args.text.now) =
-    ap to_come c.into-iter-line-iterator.ensures.into-iter-gives ∙ c.new-line-items.ensures.all ∙ ap lines_of c.start-of.ensures in
+    let all : to_come c.into_iter-line-iterator.result ≡ lines_of (take 65535 c.args.text.now) =
+    ap to_come c.into_iter-line-iterator.ensures.into_iter_gives ∙ c.new-line-items.ensures.all ∙ ap lines_of c.start_of.ensures in
     let start = stage c.new-desk.result in
     record {
       answers = (
@@ -68,7 +68,7 @@ returns c =
           start,
           c.new-desk.ensures.start,
           subst (λ lines. Answers room 1 start lines so_far.0) all
-              (answers_all (Answers room 1 start (to_come c.into-iter-line-iterator.result)) room (c.loop-line.number + 1) (stage c.loop-line.desk) (to_come c.loop-line.line-iterator) so_far.0 so_far.2 c.in-None.ensures.steps.0),
+              (answers_all (Answers room 1 start (to_come c.into_iter-line-iterator.result)) room (c.loop-line.number + 1) (stage c.loop-line.desk) (to_come c.loop-line.line-iterator) so_far.0 so_far.2 c.in-None.ensures.steps.0),
         ),
       );
       room = λ _. refl;

@@ -15,16 +15,16 @@ returns c =
     let room = lent c.args.minutes.now c.args.amounts.now in
     let kilograms = nearest c.in-Some.cost.first.value in
     let cents = nearest c.in-Some.cost.second.value in
-    let carried = subst (λ o. Carried b NoDearer sheet.state c.args.call room (replies.reply (λ a. joined 1 (single (nearest a.first.value)) (single (nearest a.second.value))) (Ok o)) c.call.new.self.state) c.in-Some.is c.in-ok-cost.ensures.carried in
+    let carried = subst (λ o. Carried b NoDearer sheet.state c.args.call room (replies.reply (λ a. joined 1 (single (nearest a.first.value)) (single (nearest a.second.value))) (Ok o)) c.call.new.self.state) c.in-Some.is c.in_ok-cost.ensures.carried in
     let heavy : SFits w64 c.value.result = search rules in
     let dear : SFits w64 c.value-2.result = search rules in
     record {
-      over = c.in-ok-cost.ensures.over;
+      over = c.in_ok-cost.ensures.over;
       sound = carried.sound c.requires;
       stated = stated b sheet.state c.call.new.self.state c.args.call room (joined 1 (single kilograms) (single cents)) c.requires carried
           c.flown-legs.result.0 c.flown-legs.result.1 _ _
           c.flown-legs.ensures.few
-          (λ up. c.flown-legs.ensures.legs up ∙ ap (λ k. k.below.count) c.in-ok-cost.ensures.over) c.flown-legs.ensures.minutes
+          (λ up. c.flown-legs.ensures.legs up ∙ ap (λ k. k.below.count) c.in_ok-cost.ensures.over) c.flown-legs.ensures.minutes
           (to_z-of_z w64 c.value.result heavy ∙ c.value.ensures ∙ sym (first_place kilograms cents))
           (to_z-of_z w64 c.value-2.result dear ∙ c.value-2.ensures ∙ sym (second_place kilograms cents));
     }

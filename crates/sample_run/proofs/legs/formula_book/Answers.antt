@@ -12,7 +12,7 @@ loop-init c =
     }
 
 pub loop-preserved : goal.loop-preserved
-loop-preserved c = legs_more _ _ _ _ c.loop.invariant c.in-ok-add-leg.ensures.1
+loop-preserved c = legs_more _ _ _ _ c.loop.invariant c.in_ok-add_leg.ensures.1
 
 pub returns : goal.returns
 returns c = let all : c.loop.counter ≡ c.args.legs = omega arith in (omega (arith, c.loop.book.few, c.loop.invariant.count), rw all at c.loop.invariant)

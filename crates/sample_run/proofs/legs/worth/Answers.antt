@@ -1,4 +1,4 @@
-use Rattle.std.proofs.Common.{◌≡◌, ℕ, ◌+◌, Some, None, Option, sym, ◌∙◌, subst, ap₂, inl, inr, arith, MatchOption}
+use Rattle.std.proofs.Common.{◌≡◌, ℕ, ◌+◌, Some, None, Option, sym, ◌∙◌, subst, ap₂, inl, inr, MatchOption}
 use Rattle.amounts.specs.Rows.{Row, Exactly, InRange, minus}
 use Rattle.books.specs.Formula.{formulas}
 use Rattle.books.specs.Meaning.{step}
@@ -26,9 +26,9 @@ unfolding step
 returns c =
     let book = c.args.book.now in
     let b = formulas book.legs book.count in
-    let next : c.in-ok-checked-add.field-0 ≡ c.args.price.minute + 1 = c.in-ok-checked-add.ensures.1 in
-    let after = simp next at c.in-ok-after.ensures in
-    let before = c.in-ok-before.ensures in
+    let next : c.in_ok-checked_add.field-0 ≡ c.args.price.minute + 1 = c.in_ok-checked_add.ensures.1 in
+    let after = simp next at c.in_ok-after.ensures in
+    let before = c.in_ok-before.ensures in
     let is = worth-step b c.args.price before.0.0.0 in
-    let range = step_range b c.keeps-laws.ensures.range c.args.price.leg c.args.price.minute before.0 after.0 in
-    there _ 1 _ _ _ (Named b c.args.price) c.checked-sub.ensures (subst (InRange 1) (sym is) range) (ap₂ minus after.1 before.1 ∙ sym is) (inr (before.0.0, before.0.1, after.0.2))
+    let range = step_range b c.keeps_laws.ensures.range c.args.price.leg c.args.price.minute before.0 after.0 in
+    there _ 1 _ _ _ (Named b c.args.price) c.checked_sub.ensures (subst (InRange 1) (sym is) range) (ap₂ minus after.1 before.1 ∙ sym is) (inr (before.0.0, before.0.1, after.0.2))

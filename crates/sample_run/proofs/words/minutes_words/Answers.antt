@@ -8,15 +8,15 @@ pub loop-done-init : goal.loop-done-init
 unfolding spaced
 loop-done-init g c = (λ i from to. absurd (omega arith), c.new-all.ensures.bytes)
 
-pub returns-in-default : goal.returns-in-default
-returns-in-default g c =
-    record { legs = c.loop-done.done; there = c.loop-done.invariant.0; last = inr c.in-default.ensures; text = c.loop-done.invariant.1 }
+pub returns-in_default : goal.returns-in_default
+returns-in_default g c =
+    record { legs = c.loop-done.done; there = c.loop-done.invariant.0; last = inr c.in_default.ensures; text = c.loop-done.invariant.1 }
 
 pub loop-done-preserved : goal.loop-done-preserved
 loop-done-preserved g c =
     let here = c.in-Some.ensures in
-    let said : string_bytes c.in-ok-words.words ≡ codes " " ++ decimal c.in-Some.minutes = search rules in
-    let grown : string_bytes c.push-str.new.self ≡ string_bytes c.loop-done.all ++ string_bytes c.in-ok-words.words = simp c.as-str.ensures.value at c.in-ok-push-str.ensures.bytes in (
+    let said : string_bytes c.in_ok-words.words ≡ codes " " ++ decimal c.in-Some.minutes = search rules in
+    let grown : string_bytes c.push_str.new.self ≡ string_bytes c.loop-done.all ++ string_bytes c.in_ok-words.words = simp c.as_str.ensures.value at c.in_ok-push_str.ensures.bytes in (
       (λ i from to. elim (cases_eq (c.loop-done.done + 1) i) [ inl same ↦ (here.0, (from, omega (arith, here.1.1))) | inr other ↦ c.loop-done.invariant.0 i from (omega arith) ]),
       spaced_more _ _ _ _ _ _ c.loop-done.invariant.1 here.2 said grown,
     )

@@ -10,7 +10,7 @@ use Rattle.sheet.proofs.calls.run.Goals as goal
 pub loop-k-init : goal.loop-k-init
 loop-k-init g c =
     let meaning = g.B.Book.meaning in
-    let le = g.Cost.Amount.le in
+    let le = g.B.Cost.Amount.le in
     let made = c.new-sheet.ensures in (
       refl,
       subst (λ k. Sound (meaning k) le c.new-sheet.result.state) (sym made.over) made.sound,
@@ -32,7 +32,7 @@ loop-k-preserved g c =
     let end = c.min-k-end.ensures in
     let long = c.loop-k.auto.answers in
     let turn =
-    run_turn g.B.Book.meaning g.Cost.Amount.row room calls k (record { call = Open 0; minutes = 0; amounts = 0 }) (take k answers) _ c.call-answer.result
+    run_turn g.B.Book.meaning g.B.Cost.Amount.row room calls k (record { call = Open 0; minutes = 0; amounts = 0 }) (take k answers) _ c.call-answer.result
     inv.0 c.call-answer.ensures.over (omega arith) inv.1 inv.2 c.call-answer.ensures.carried
     (λ i. record { minutes = minutes i; amounts = amounts i })
     (answers_more k answers c.put.new.places c.call-answer.result c.put.ensures (omega arith)) in
@@ -41,7 +41,7 @@ loop-k-preserved g c =
 pub returns : goal.returns
 returns g c =
     let meaning = g.B.Book.meaning in
-    let le = g.Cost.Amount.le in
+    let le = g.B.Cost.Amount.le in
     let over = c.new-sheet.ensures.over in
     let inv = c.loop-k.invariant in
     let k = c.loop-k.k in
@@ -55,9 +55,9 @@ returns g c =
     let made = take_reach k (length c.args.answers.now) calls (omega arith) in
     let answered = take_reach k (length calls) answers (omega arith) in
     record {
-      register = subst₂ (λ fs rs. Run (meaning c.args.book) le blank (fed room fs) (map (reply g.Cost.Amount.row) rs) (reading c.loop-k.sheet.state)) made answered (subst (λ b. Run (meaning b) le blank (fed room (take k calls)) (map (reply g.Cost.Amount.row) (take k answers)) (reading c.loop-k.sheet.state)) over inv.2);
+      register = subst₂ (λ fs rs. Run (meaning c.args.book) le blank (fed room fs) (map (reply g.B.Cost.Amount.row) rs) (reading c.loop-k.sheet.state)) made answered (subst (λ b. Run (meaning b) le blank (fed room (take k calls)) (map (reply g.B.Cost.Amount.row) (take k answers)) (reading c.loop-k.sheet.state)) over inv.2);
       rest = drop_on k (length calls) answers c.args.answers.now (omega arith) inv.3;
       sound = subst (λ b. Sound (meaning b) le c.loop-k.sheet.state) over inv.1;
       over = inv.0 ∙ over;
-      one = one_answer g.met.Cost.Amount.order (meaning c.args.book);
+      one = one_answer g.met.B.Cost.Amount.order (meaning c.args.book);
     }

@@ -9,7 +9,7 @@ abbrev pub invariant-loop-k : goal.invariant-loop-k
 invariant-loop-k g l =
     let b = g.B.Book.meaning l.initial.sheet.book in
     (l.sheet.book ≡ l.initial.sheet.book)
-    × Sound b g.Cost.Amount.le l.sheet.state
-    × Run b g.Cost.Amount.le blank (fed (lent l.initial.minutes l.initial.amounts) (take l.k l.calls)) (map (reply g.Cost.Amount.row) (take l.k l.answers)) (reading l.sheet.state)
+    × Sound b g.B.Cost.Amount.le l.sheet.state
+    × Run b g.B.Cost.Amount.le blank (fed (lent l.initial.minutes l.initial.amounts) (take l.k l.calls)) (map (reply g.B.Cost.Amount.row) (take l.k l.answers)) (reading l.sheet.state)
     × (drop l.k l.answers ≡ drop l.k l.initial.answers)
     × (l.k ≤ min (length l.calls) (length l.initial.answers))

@@ -12,32 +12,32 @@ use Rattle.solver.proofs.Places.{at_set}
 use Rattle.solver.proofs.narrow.lower.Goals as goal
 
 pub returns-then-all-target : goal.returns-then-all-target
-returns-then-all-target g c = let target = rw c.legs.ensures at c.closing-target.ensures in (c.requires.1.1, inl (omega arith))
+returns-then-all-target g c = let target = rw c.legs.ensures at c.closing-target.ensures in (c.requires.fits.1, inl (omega arith))
 
 pub gather-requires : goal.gather-requires
 gather-requires g c =
-    let few = c.keeps-laws.ensures.shape.few in
-    ((omega arith, omega arith), box_steps c.requires.1.0 c.requires.1.1 Lower _ c.requires.0.0)
+    let few = c.keeps_laws.ensures.shape.few in
+    record { legs_in_bounds = (omega arith, omega arith); steps = box_steps c.requires.fits.0 c.requires.fits.1 Lower _ c.requires.done_bound.0 }
 
 pub loop-all-init : goal.loop-all-init
-loop-all-init g c = (c.sum-all.ensures, c.gather.ensures, c.requires.1.1)
+loop-all-init g c = (c.sum-all.ensures, c.gather.ensures, c.requires.fits.1)
 
 pub choose-leg-requires : goal.choose-leg-requires
 choose-leg-requires g c =
-    let few = c.keeps-laws.ensures.shape.few in
+    let few = c.keeps_laws.ensures.shape.few in
     let target = rw c.legs.ensures at c.closing-target.ensures in
-    let boxed = c.loop-all.invariant.2 in (
-      (omega arith, omega arith, λ none. let j = can_lower boxed c.requires.0.0 (omega arith) in none j.0 j.1 j.2 j.3),
-      (box_steps c.requires.1.0 boxed Lower _ c.requires.0.0, c.loop-all.invariant.1),
-    )
+    let boxed = c.loop-all.invariant.2 in record {
+      legs_in_bounds = (omega arith, omega arith, λ none. let j = can_lower boxed c.requires.done_bound.0 (omega arith) in none j.0 j.1 j.2 j.3);
+      steps = (box_steps c.requires.fits.0 boxed Lower _ c.requires.done_bound.0, c.loop-all.invariant.1);
+    }
 
 pub refresh-requires : goal.refresh-requires
 refresh-requires g c =
-    let few = c.keeps-laws.ensures.shape.few in
+    let few = c.keeps_laws.ensures.shape.few in
     let leads = c.choose-leg.ensures in
     let i = c.choose-leg.result in
     let within : i < length c.loop-all.high = omega arith in
-    (omega arith, simp length-set within, step_lowered c.requires.1.0 c.loop-all.invariant.2 i (leads.0, omega arith) _ (get_or-set_same c.loop-all.high i _ 0 within))
+    (omega arith, simp length-set within, step_lowered c.requires.fits.0 c.loop-all.invariant.2 i (leads.0, omega arith) _ (get_or-set_same c.loop-all.high i _ 0 within))
 
 pub loop-all-preserved : goal.loop-all-preserved
 loop-all-preserved g c =
@@ -47,7 +47,7 @@ loop-all-preserved g c =
     let high = c.loop-all.high in
     let k = c.args.done in
     let i = c.choose-leg.result in
-    let few = c.keeps-laws.ensures.shape.few in
+    let few = c.keeps_laws.ensures.shape.few in
     let target = rw c.legs.ensures at c.closing-target.ensures in
     let long : latest b.legs s (k + 1) < reached (at high) (k + 1) = omega arith in
     let leads = c.choose-leg.ensures in
@@ -57,9 +57,9 @@ loop-all-preserved g c =
     let all = ap (λ f. reached f (k + 1)) e in
     let down = reached_put_down (at high) i (k + 1) leads.0 leads.1 (omega arith) in (
       omega arith,
-      c.refresh.ensures (k + 1) (hand_moved g.Cost.Amount.row b Lower low (at high) low _ (k + 1) i (λ j other. (refl, get_or-set_other high i j _ 0 other)) c.loop-all.steps c.loop-all.invariant.1),
-      subst (λ f. Boxed b g.Cost.Amount.le s low f k) (sym e)
-          (box.lower g.met.Cost.Amount.order c.keeps-laws.ensures.steps c.requires.1.0 i c.loop-all.invariant.2 c.requires.0.0 long leads),
+      c.refresh.ensures (k + 1) (hand_moved g.B.Cost.Amount.row b Lower low (at high) low _ (k + 1) i (λ j other. (refl, get_or-set_other high i j _ 0 other)) c.loop-all.steps c.loop-all.invariant.1),
+      subst (λ f. Boxed b g.B.Cost.Amount.le s low f k) (sym e)
+          (box.lower g.met.B.Cost.Amount.order c.keeps_laws.ensures.steps c.requires.fits.0 i c.loop-all.invariant.2 c.requires.done_bound.0 long leads),
     )
 
 pub returns : goal.returns

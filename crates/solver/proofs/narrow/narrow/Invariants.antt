@@ -4,4 +4,4 @@ use Rattle.solver.specs.Plans.{at, settings}
 use Rattle.solver.proofs.narrow.narrow.Given as goal
 
 abbrev pub invariant-loop-done : goal.invariant-loop-done
-invariant-loop-done g l = (length l.low ≡ 65) × (length l.high ≡ 65) × Boxed (g.B.Book.meaning l.book) g.Cost.Amount.le (settings l.plan) (at l.low) (at l.high) l.done
+invariant-loop-done g l = (length l.low ≡ 65) × (length l.high ≡ 65) × Boxed (g.B.Book.meaning l.book) g.B.Cost.Amount.le (settings l.plan) (at l.low) (at l.high) l.done

@@ -7,7 +7,7 @@ use Rattle.solver.specs.declared.steps.Move.TheVariants.{Raise}
 use Rattle.solver.proofs.narrow.raise.Given as goal
 
 abbrev pub invariant-loop-all : goal.invariant-loop-all
-invariant-loop-all g l = (l.all ≡ reached (at l.low) (l.done + 1)) × AtHand g.Cost.Amount.row (g.B.Book.meaning l.book) Raise (at l.low) (at l.high) (l.done + 1) l.steps × Boxed (g.B.Book.meaning l.book) g.Cost.Amount.le (settings l.plan) (at l.low) (at l.high) l.done
+invariant-loop-all g l = (l.all ≡ reached (at l.low) (l.done + 1)) × AtHand g.B.Cost.Amount.row (g.B.Book.meaning l.book) Raise (at l.low) (at l.high) (l.done + 1) l.steps × Boxed (g.B.Book.meaning l.book) g.B.Cost.Amount.le (settings l.plan) (at l.low) (at l.high) l.done
 
 abbrev pub decreases-loop-all : goal.decreases-loop-all
 decreases-loop-all g l = l.target - l.all

@@ -8,20 +8,26 @@ use Rattle.solver.proofs.pricing.base.Goals as goal
 
 pub gather-requires : goal.gather-requires
 gather-requires g c =
-    let few = c.keeps-laws.ensures.shape.few in
+    let few = c.keeps_laws.ensures.shape.few in
     let places = c.requires.places in
-    ((omega arith, search rules), timing_steps (g.B.Book.meaning c.args.book.now) (settings c.args.plan.now) (at c.args.minutes.now) c.requires.fits c.requires.cheapest.timing _ (omega arith))
+    record {
+      legs_in_bounds = (omega arith, search rules);
+      steps = timing_steps (g.B.Book.meaning c.args.book.now) (settings c.args.plan.now) (at c.args.minutes.now) c.requires.fits c.requires.cheapest.timing _ (omega arith);
+    }
 
 pub leader-requires : goal.leader-requires
 leader-requires g c =
-    let few = c.keeps-laws.ensures.shape.few in
+    let few = c.keeps_laws.ensures.shape.few in
     let places = c.requires.places in
-    ((omega arith, search rules), (timing_steps (g.B.Book.meaning c.args.book.now) (settings c.args.plan.now) (at c.args.minutes.now) c.requires.fits c.requires.cheapest.timing _ (omega arith), c.gather.ensures))
+    record {
+      legs_in_bounds = (omega arith, search rules);
+      steps = (timing_steps (g.B.Book.meaning c.args.book.now) (settings c.args.plan.now) (at c.args.minutes.now) c.requires.fits c.requires.cheapest.timing _ (omega arith), c.gather.ensures);
+    }
 
 pub returns : goal.returns
 returns g c =
     let b = g.B.Book.meaning c.args.book.now in
     let x = at c.args.minutes.now in
     let u = at c.args.plan.now.high in
-    floor_least g.met.Cost.Amount.order _ c.requires.fits c.requires.cheapest
-    (subst (λ n. Leads (Before Raise g.Cost.Amount.le) (edge_row b Raise x u) x u n c.in-Some.leg) c.legs-legs.ensures c.in-Some.ensures)
+    floor_least g.met.B.Cost.Amount.order _ c.requires.fits c.requires.cheapest
+    (subst (λ n. Leads (Before Raise g.B.Cost.Amount.le) (edge_row b Raise x u) x u n c.in-Some.leg) c.legs-legs.ensures c.in-Some.ensures)

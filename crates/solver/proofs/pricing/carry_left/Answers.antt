@@ -6,7 +6,7 @@ use Rattle.solver.proofs.Markup.{fair_left, fair_set, rises_left, falls_left}
 use Rattle.solver.proofs.pricing.carry_left.Goals as goal
 
 pub loop-k-init : goal.loop-k-init
-loop-k-init g c = let legs = c.legs-legs.ensures in (c.requires.0.2, c.requires.1, λ j low high. absurd (omega arith))
+loop-k-init g c = let legs = c.legs-legs.ensures in (c.requires.fair.2, c.requires.rises, λ j low high. absurd (omega arith))
 
 pub greater-requires : goal.greater-requires
 greater-requires g c =
@@ -17,14 +17,14 @@ greater-requires g c =
 pub loop-k-preserved-then-sum-closing : goal.loop-k-preserved-then-sum-closing
 loop-k-preserved-then-sum-closing g c =
     let b = g.B.Book.meaning c.args.book.now in
-    let order = g.met.Cost.Amount.order in
+    let order = g.met.B.Cost.Amount.order in
     let s = settings c.args.plan.now in
     let x = at c.args.minutes.now in
     let k = c.loop-k.k - 1 in
     let ps = c.loop-k.prices in
     let r = c.greater.result in
     let inv = c.loop-k.invariant in
-    let few = c.keeps-laws.ensures.shape.few in
+    let few = c.keeps_laws.ensures.shape.few in
     let shuts = rw c.legs-legs.ensures at c.closing.ensures in
     let loose : reached x k < latest b.legs s k = omega arith in (
       fair_set order b.legs k ps r (omega arith) (fair_left order k _ _ r (inv.0 k (omega arith) (omega arith)) (inv.0 (k + 1) (omega arith) (omega arith)) loose c.greater.ensures) inv.0,

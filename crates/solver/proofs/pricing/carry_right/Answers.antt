@@ -20,13 +20,13 @@ greater-requires g c =
 pub loop-k-preserved : goal.loop-k-preserved
 loop-k-preserved g c =
     let b = g.B.Book.meaning c.args.book.now in
-    let le = g.Cost.Amount.le in
-    let order = g.met.Cost.Amount.order in
+    let le = g.B.Cost.Amount.le in
+    let order = g.met.B.Cost.Amount.order in
     let s = settings c.args.plan.now in
     let x = at c.args.minutes.now in
     let k = c.loop-k.k in
     let ps = c.loop-k.prices in
-    let few = c.keeps-laws.ensures.shape.few in
+    let few = c.keeps_laws.ensures.shape.few in
     let opens = rw c.legs-legs.ensures at c.opening.ensures in
     let Carried : List Price → Type 0 = λ qs. FairUp b le s x b.legs qs × ((j : ℕ) → 1 ≤ j → j < k + 1 → Rises b le s x qs j) in
     elim c.if-opening-sum.branch [

@@ -11,4 +11,4 @@ greater-requires g c =
 
 pub returns : goal.returns
 returns g c =
-    fair_first g.met.Cost.Amount.order c.keeps-laws.ensures.steps c.requires.1.fits c.requires.1.cheapest c.args.leg c.args.base c.greater.result c.requires.0 c.if-minutes-leg.false c.requires.2 c.greater.ensures
+    fair_first g.met.B.Cost.Amount.order c.keeps_laws.ensures.steps c.requires.1.fits c.requires.1.cheapest c.args.leg c.args.base c.greater.result c.requires.0 c.if-minutes-leg.false c.requires.2 c.greater.ensures

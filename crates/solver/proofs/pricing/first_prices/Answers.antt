@@ -8,19 +8,19 @@ use Rattle.solver.proofs.pricing.first_prices.Goals as goal
 pub loop-k-init : goal.loop-k-init
 loop-k-init g c = (refl, λ i low high. absurd (omega arith))
 
-pub first-price-requires : goal.first-price-requires
-first-price-requires g c = ((omega arith, omega arith), c.requires.0, c.requires.1)
+pub first_price-requires : goal.first_price-requires
+first_price-requires g c = ((omega arith, omega arith), c.requires.0, c.requires.1)
 
 pub loop-k-preserved : goal.loop-k-preserved
 loop-k-preserved g c =
     let b = g.B.Book.meaning c.args.book.now in
     let s = settings c.args.plan.now in
     let x = at c.args.minutes.now in
-    let few = c.keeps-laws.ensures.shape.few in (
+    let few = c.keeps_laws.ensures.shape.few in (
       simp length-set c.loop-k.invariant.0,
       λ i low high.
-          after_price (Fair b g.Cost.Amount.le s x i) c.loop-k.prices _ c.first-price.result i (omega arith)
-          (λ same. subst (λ j. Fair b g.Cost.Amount.le s x j c.first-price.result) (sym same) c.first-price.ensures)
+          after_price (Fair b g.B.Cost.Amount.le s x i) c.loop-k.prices _ c.first_price.result i (omega arith)
+          (λ same. subst (λ j. Fair b g.B.Cost.Amount.le s x j c.first_price.result) (sym same) c.first_price.ensures)
           (λ other. c.loop-k.invariant.1 i low (omega arith)),
     )
 

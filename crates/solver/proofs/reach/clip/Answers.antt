@@ -10,5 +10,5 @@ loop-k-preserved c =
       simp length-set inv.0,
       simp length-set inv.1,
       clip_more c.args.legs (settings c.args.plan.now) c.args.span.early c.args.span.late c.loop-k.low c.loop-k.high _ _ _
-          (omega arith) (omega arith) (omega arith) c.requires.1 (cc) (cc) inv.2,
+          (omega arith) (omega arith) (omega arith) c.requires.between (cc) (cc) inv.2,
     )

@@ -19,8 +19,8 @@ loop-k-preserved c =
     let s = settings c.args.plan.now in
     let k = c.loop-k.k in
     let fits-late : k + 1 < length c.loop-k.late = omega arith in
-    let small = latest_small n s c.requires.1 (k + 1) (omega arith) (omega arith) in
-    let bounded = c.requires.1.bounds (k + 1) (omega arith) (omega arith) in (
+    let small = latest_small n s c.requires.small (k + 1) (omega arith) (omega arith) in
+    let bounded = c.requires.small.bounds (k + 1) (omega arith) (omega arith) in (
       simp length-set inv.0,
       simp length-set inv.1,
       rw get_or-set_same (omega (arith, small, c.closing.ensures, c.min-f.ensures)),

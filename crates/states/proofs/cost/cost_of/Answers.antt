@@ -11,21 +11,21 @@ pub loop-k-init : goal.loop-k-init
 unfolding spent
 loop-k-init g c = (c.zero-total.ensures, λ i low high. absurd (omega arith))
 
-pub returns-in-err-total : goal.returns-in-err-total
-returns-in-err-total g c =
+pub returns-in_err-total : goal.returns-in_err-total
+returns-in_err-total g c =
     let b = g.B.Book.meaning c.args.book.now in
     let ms = c.args.minutes.now in
-    let cost = c.in-ok-cost.ensures in
-    let absent = MatchOption-at_none _ _ c.in-err-total.was c.checked-add.ensures in
-    rw c.from-residual-in-err-total.ensures
-    (λ all. absent (subst (InRange g.Cost.Amount.places) (sym (spent_next b ms c.loop-k.k _ _ c.loop-k.invariant.0 cost.1)) (spent_fits b ms c.loop-k.k c.keeps-laws.ensures.range c.keeps-laws.ensures.shape (omega arith) all)))
+    let cost = c.in_ok-cost.ensures in
+    let absent = MatchOption-at_none _ _ c.in_err-total.was c.checked_add.ensures in
+    rw c.from_residual-in_err-total.ensures
+    (λ all. absent (subst (InRange g.B.Cost.Amount.places) (sym (spent_next b ms c.loop-k.k _ _ c.loop-k.invariant.0 cost.1)) (spent_fits b ms c.loop-k.k c.keeps_laws.ensures.range c.keeps_laws.ensures.shape (omega arith) all)))
 
 pub loop-k-preserved : goal.loop-k-preserved
 loop-k-preserved g c =
     let b = g.B.Book.meaning c.args.book.now in
     let ms = c.args.minutes.now in
-    let cost = c.in-ok-cost.ensures in
-    let sum = c.in-ok-total.ensures in (
+    let cost = c.in_ok-cost.ensures in
+    let sum = c.in_ok-total.ensures in (
       sum.1 ∙ spent_next b ms c.loop-k.k _ _ c.loop-k.invariant.0 cost.1,
       priced_next b ms c.loop-k.k c.loop-k.invariant.1 cost.0,
     )
@@ -36,5 +36,5 @@ returns g c =
     let ms = c.args.minutes.now in
     let all : c.loop-k.k ≡ length ms = omega arith in (
       subst (λ n. (i : ℕ) → 1 ≤ i → i ≤ n → Priced b i (flown ms i)) all c.loop-k.invariant.1,
-      subst (λ n. g.Cost.Amount.row c.loop-k.total ≡ spent b (flown ms) n) all c.loop-k.invariant.0,
+      subst (λ n. g.B.Cost.Amount.row c.loop-k.total ≡ spent b (flown ms) n) all c.loop-k.invariant.0,
     )

@@ -15,7 +15,7 @@ pub loop-k-preserved : goal.loop-k-preserved
 loop-k-preserved g c =
     let b = g.B.Book.meaning c.args.book.now in
     let inv = c.loop-k.invariant in
-    let few = c.keeps-laws.ensures.shape.few in
+    let few = c.keeps_laws.ensures.shape.few in
     let ends = MatchOption-at_some _ _ _ c.unwrap-ends.ensures c.ends.ensures in (
       simp length-set inv.0,
       simp length-set inv.1,

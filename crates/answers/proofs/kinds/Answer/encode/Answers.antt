@@ -6,5 +6,5 @@ pub returns-in-Timing : goal.returns-in-Timing
 returns-in-Timing c =
     let kilograms : SFits w64 c.in-Timing.kilograms = search rules in
     let cents : SFits w64 c.in-Timing.cents = search rules in
-    let put = simp (to_z-of_z w64 c.in-Timing.kilograms kilograms, to_z-of_z w64 c.in-Timing.cents cents) at c.put-timing.ensures in
+    let put = simp (to_z-of_z w64 c.in-Timing.kilograms kilograms, to_z-of_z w64 c.in-Timing.cents cents) at c.put_timing.ensures in
     rw c.in-Timing.is put

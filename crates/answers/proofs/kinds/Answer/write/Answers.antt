@@ -7,14 +7,14 @@ use Rattle.answers.proofs.kinds.Answer.write.Goals as goal
 
 pub returns : goal.returns
 returns c =
-    let fits = c.put-line-count.ensures.fits in
+    let fits = c.put_line-count.ensures.fits in
     let line = spelled (meant c.args.self) in
-    let put : take (c.put-line-count.result - 0) c.put-line-count.new.place ≡ line ++ 10 ∷ [] = rw sub-zero c.put-line-count.ensures.line in
-    let long : length (take (c.put-line-count.result - 0) c.put-line-count.new.place) ≡ length line + 1 = ap length put ∙ length-append line (10 ∷ []) in
+    let put : take (c.put_line-count.result - 0) c.put_line-count.new.place ≡ line ++ 10 ∷ [] = rw sub-zero c.put_line-count.ensures.line in
+    let long : length (take (c.put_line-count.result - 0) c.put_line-count.new.place) ≡ length line + 1 = ap length put ∙ length-append line (10 ∷ []) in
     record {
-      items = simp (sub-zero, c.put-line-count.ensures.line) at c.extend-from-slice.ensures.items;
-      room = λ free. c.extend-from-slice.ensures.succeeds (omega (arith, long, free));
-      capacity = c.extend-from-slice.ensures.capacity;
+      items = simp (sub-zero, c.put_line-count.ensures.line) at c.extend_from_slice.ensures.items;
+      room = λ free. c.extend_from_slice.ensures.succeeds (omega (arith, long, free));
+      capacity = c.extend_from_slice.ensures.capacity;
       spells = record { is = refl; fits = fits };
       short = (well_formed _ fits).short;
       only = λ other spells. same_reply _ _ spells.fits fits (sym spells.is);

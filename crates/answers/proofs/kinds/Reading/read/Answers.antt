@@ -3,11 +3,11 @@ use native.Mathlib.Nat.{sub-zero}
 use Rattle.answers.proofs.Apart.{read_bytes, well_formed}
 use Rattle.answers.proofs.kinds.Reading.read.Goals as goal
 
-pub returns-in-default : goal.returns-in-default
-returns-in-default c =
+pub returns-in_default : goal.returns-in_default
+returns-in_default c =
     record {
       reads = refl;
-      only = λ reply spells. c.in-default.ensures.0 (rw spells.is (well_formed reply spells.fits));
+      only = λ reply spells. c.in_default.ensures.0 (rw spells.is (well_formed reply spells.fits));
     }
 
 pub returns : goal.returns

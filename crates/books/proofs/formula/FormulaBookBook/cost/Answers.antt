@@ -8,7 +8,7 @@ pub returns : goal.returns
 returns c =
     let book = c.args.self.now in
     let leg = at book.legs c.args.leg in
-    let here = c.in-ok-leg.ensures in
+    let here = c.in_ok-leg.ensures in
     let low : leg.lo ≤ c.args.minutes = rw (← here.1) (omega arith) in
     let high : c.args.minutes ≤ leg.hi = rw (← here.1) (omega arith) in (
       (here.0, low, high),

@@ -4,7 +4,7 @@ use Rattle.charges.proofs.charge.ChargeBookBook.keeps_laws.Goals as goal
 pub returns : goal.returns
 returns g c =
     let rates = c.args.self.now.rates in
-    let laws = c.keeps-laws.ensures in
+    let laws = c.keeps_laws.ensures in
     record {
       shape = shaped _ _ rates.values rates.small laws.shape;
       range = ranged _ _ rates.values rates.small laws.shape laws.range;

@@ -2,9 +2,9 @@ use native.Mathlib.Nat.{sub-zero}
 use Rattle.frames.proofs.Answers.{answer_malformed, answer_decoded, answer_only}
 use Rattle.frames.proofs.calls.Call.read.Goals as goal
 
-pub returns-in-default : goal.returns-in-default
-returns-in-default c =
-    let answer = answer_malformed c.args.line.now c.in-default.ensures.0 in
+pub returns-in_default : goal.returns-in_default
+returns-in_default c =
+    let answer = answer_malformed c.args.line.now c.in_default.ensures.0 in
     record { answer = answer; only = λ other is. answer_only c.args.line.now _ other answer is }
 
 pub returns : goal.returns

@@ -3,8 +3,8 @@ use Rattle.joins.proofs.joined.JoinedBookBook.keeps_laws.Goals as goal
 
 pub returns : goal.returns
 returns g c =
-    let first = c.keeps-laws.ensures in
-    let second = c.keeps-laws-2.ensures in
+    let first = c.keeps_laws.ensures in
+    let second = c.keeps_laws-2.ensures in
     record {
       shape = shaped _ _ first.shape second.shape;
       range = ranged _ _ _ first.range second.range;

@@ -7,5 +7,5 @@ returns g c =
       carried = c.timed.ensures.carried;
       over = c.timed.ensures.over;
       unwritten = c.timed.ensures.unwritten;
-      stays = λ sound. lift_opens g.Cost.Amount.row (g.B.Book.meaning c.args.self.now.book) c.args.self.now.state c.args.stop _ _ c.timed.result sound (c.timed.ensures.carried.answered sound);
+      stays = λ sound. lift_opens g.B.Cost.Amount.row (g.B.Book.meaning c.args.self.now.book) c.args.self.now.state c.args.stop _ _ c.timed.result sound (c.timed.ensures.carried.answered sound);
     }

@@ -10,15 +10,15 @@ use Rattle.states.proofs.Answering.{answered_entry, answered_stuck, answered_gra
 use Rattle.states.proofs.Fitting.{fits_after, fitting}
 use Rattle.states.proofs.state.State.time.Goals as goal
 
-pub returns-in-err-admit : goal.returns-in-err-admit
-returns-in-err-admit g c =
+pub returns-in_err-admit : goal.returns-in_err-admit
+returns-in_err-admit g c =
     let b = g.B.Book.meaning c.args.book.now in
-    let p = err_from_is_err_and c.from-residual.result c.from-residual.ensures.1 in
+    let p = err_from_is_err_and c.from_residual.result c.from_residual.ensures.1 in
     rw (p.1, p.2)
     (record {
       carried =
           record {
-            answered = λ _. answered_entry b (reading c.args.self.now) c.args.call _ _ c.in-err-admit.ensures;
+            answered = λ _. answered_entry b (reading c.args.self.now) c.args.call _ _ c.in_err-admit.ensures;
             sound = λ sound. sound;
           };
       unwritten = (refl, refl, refl);
@@ -31,7 +31,7 @@ returns-in-Stuck g c =
     record {
       carried =
           record {
-            answered = λ _. answered_stuck b r c.args.call _ c.in-Stuck.leg c.in-ok-admit.ensures c.requires (subst (λ s. First b.legs s c.in-Stuck.leg) c.planned-plan.ensures c.in-Stuck.ensures.solves.1);
+            answered = λ _. answered_stuck b r c.args.call _ c.in-Stuck.leg c.in_ok-admit.ensures c.requires (subst (λ s. First b.legs s c.in-Stuck.leg) c.planned-plan.ensures c.in-Stuck.ensures.solves.1);
             sound = λ sound. sound;
           };
       unwritten = (refl, refl, c.in-Stuck.ensures.unwritten tt);
@@ -48,7 +48,7 @@ returns-in-Unlawful g c =
                 absurd
                 (c.in-Unlawful.ensures.solves
                 (subst (Lawful b) (sym c.planned-plan.ensures)
-                (fits_after b c.keeps-laws.ensures.shape r c.args.call _ (fitting sound) c.in-ok-admit.ensures c.requires)));
+                (fits_after b c.keeps_laws.ensures.shape r c.args.call _ (fitting sound) c.in_ok-admit.ensures c.requires)));
             sound = λ sound. sound;
           };
       unwritten = (refl, refl, c.in-Unlawful.ensures.unwritten tt);
@@ -57,7 +57,7 @@ returns-in-Unlawful g c =
 pub returns : goal.returns
 returns g c =
     let b = g.B.Book.meaning c.args.book.now in
-    let le = g.Cost.Amount.le in
+    let le = g.B.Cost.Amount.le in
     let r = reading c.args.self.now in
     let found = c.in-Solved.found in
     let plan = c.planned-plan.result in
@@ -68,9 +68,9 @@ returns g c =
       carried =
           record {
             answered = λ _.
-                answered_granted b r c.args.call _ _ (at found.minutes) _ c.in-ok-admit.ensures c.requires
+                answered_granted b r c.args.call _ _ (at found.minutes) _ c.in_ok-admit.ensures c.requires
                 (subst (λ s. Cheapest b le s (at found.minutes)) c.planned-plan.ensures solves.1)
-                (MatchOption-at_some _ _ _ c.unwrap-cost.ensures c.timing-cost.ensures)
+                (MatchOption-at_some _ _ _ c.unwrap-cost.ensures c.timing_cost.ensures)
                 (ap reading c.stand.ensures ∙ ap standing c.planned-plan.ensures);
             sound = λ _. subst (Sound b le) (sym c.stand.ensures) kept;
           };
