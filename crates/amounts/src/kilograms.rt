@@ -60,3 +60,23 @@ impl Amount for Kilograms {
         no_more(self.value, other.value)
     }
 }
+
+#[cfg(test)]
+mod tests {
+    use super::*;
+    use std::test::Fail;
+
+    // A field beyond the range, which no call makes, is read as the nearer end by every operation.
+    #[test]
+    fn beyond_the_range(rt: HostRuntime) -> Result<(), Fail> {
+        let high = Kilograms { value: i64::MAX };
+        let low = Kilograms { value: i64::MIN };
+        assert_eq!(rt; high.value(), 140_737_488_355_328);
+        assert_eq!(rt; low.value(), -140_737_488_355_328);
+        assert!(rt; high.at_most(Kilograms::new(140_737_488_355_328)));
+        assert!(rt; Kilograms::new(-140_737_488_355_328).at_most(low));
+        let zero = high.checked_add(low).ok_or("absent")?;
+        assert_eq!(rt; zero.value(), 0);
+        Ok(())
+    }
+}

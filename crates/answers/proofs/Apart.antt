@@ -1,7 +1,7 @@
 -- Answers taken back from their lines: no two answers share one, and each is well formed.
 use Rattle.std.proofs.Common.{◌≡◌, ℕ, ◌+◌, ◌*◌, ◌/◌, ◌%◌, ◌<◌, ◌≤◌, List, [], ◌∷◌, length, get_or, drop, ℤ, Some, None, Option, sym, refl, ap, ◌∙◌, arith, w64, SFits, to_z, of_z}
 use mir.ValLaws.{of_z_fits}
-use Rattle.std.specs.List.{AllByRecursion as All}
+use Rattle.std.specs.List.{AllByRecursion}
 use Rattle.std.proofs.lemmas.Int.{to_z-of_z}
 use Rattle.board.specs.Layers.{code}
 use Rattle.board.specs.declared.Layer.{Layer}
@@ -43,7 +43,7 @@ unwide_wide z rest fits = ap (to_z w64) (eight_bytes (of_z w64 z) (of_z_fits w64
 same_wide : (y z : ℤ) (s t : List ℕ) → SFits w64 y → SFits w64 z → wide y s ≡ wide z t → (y ≡ z) × (s ≡ t)
 same_wide y z s t fits-y fits-z e = (sym (unwide_wide y s fits-y) ∙ ap unwide e ∙ unwide_wide z t fits-z, ap (drop 8) e)
 
-same_words : (ms ns s t : List ℕ) → length ms ≡ length ns → All (λ m. m < 65536) ms → All (λ n. n < 65536) ns →
+same_words : (ms ns s t : List ℕ) → length ms ≡ length ns → AllByRecursion (λ m. m < 65536) ms → AllByRecursion (λ n. n < 65536) ns →
     words ms s ≡ words ns t → (ms ≡ ns) × (s ≡ t)
 same_words [] [] s t long small-m small_n e = (refl, e)
 same_words [] (n ∷ ns) s t long small-m small_n e = absurd (omega arith)
@@ -91,7 +91,7 @@ same_reply p q fits-p fits-q e = same_bytes p q fits-p fits-q (same_hexed (answe
 
 -- bytes
 abbrev Small : List ℕ → Type 0
-Small = All (λ b. b < 256)
+Small = AllByRecursion (λ b. b < 256)
 
 small_words : (ns rest : List ℕ) → Small rest → Small (words ns rest)
 small_words [] rest small = small

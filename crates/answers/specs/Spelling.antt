@@ -3,7 +3,7 @@
 use Rattle.std.specs.Prelude.{◌≡◌, ℕ, ◌/◌, ◌%◌, ◌^◌, ◌<◌, ◌≤◌, List, [], ◌∷◌, length, ℤ, FitsSigned}
 use Rattle.std.specs.Int.{w64}
 use Rattle.std.proofs.Common.{of_z}
-use Rattle.std.specs.List.{AllByRecursion as All}
+use Rattle.std.specs.List.{AllByRecursion}
 use Rattle.board.specs.Layers.{code}
 use Rattle.board.specs.declared.Refusal.{Refusal}
 use Rattle.frames.specs.Frames.{word}
@@ -39,7 +39,7 @@ spelled reply = hexed (answer_bytes reply)
 -- numbers that fit their fields: minutes and lines two bytes, legs and numbers one, amounts eight with their sign; and 64 legs at most
 abbrev pub Fits : Reply → Type 0
 Fits done = Unit {0}
-Fits (timing minutes kilograms cents) = (length minutes ≤ 64) × All (λ m. m < 2 ^ 16) minutes × FitsSigned w64 kilograms × FitsSigned w64 cents
+Fits (timing minutes kilograms cents) = (length minutes ≤ 64) × AllByRecursion (λ m. m < 2 ^ 16) minutes × FitsSigned w64 kilograms × FitsSigned w64 cents
 Fits (refused refusal line) = (refusal.number < 2 ^ 8) × (refusal.leg < 2 ^ 8) × (line < 2 ^ 16)
 
 -- a line that spells an answer

@@ -1,6 +1,6 @@
 // Reading an answer line.
 ghost use Rattle.std.specs.Prelude.{◌≡◌, ◌+◌, ◌*◌, ◌^◌, ◌<◌, ◌≤◌, ◌∷◌, length, take, drop, MatchOption, ◌≢◌};
-ghost use Rattle.std.specs.List.{AllByRecursion as All};
+ghost use Rattle.std.specs.List.{AllByRecursion};
 ghost use Rattle.board.specs.Layers.{code};
 ghost use Rattle.board.specs.declared.Layer.{Layer as AnyLayer};
 ghost use Rattle.answers.specs.Heard.{Decodes, ReadAs, Reads};
@@ -44,7 +44,7 @@ fn take_minutes(fields: &[u8], legs: usize, minutes: &mut [u16; 64])
     requires few { legs ≤ 64 }
     requires room { 2 * legs ≤ length fields.now }
     ensures read { fields.now ≡ words (take legs minutes.new) (drop (2 * legs) fields.now) }
-    ensures fits { All (λ m. m < 2 ^ 16) (take legs minutes.new) }
+    ensures fits { AllByRecursion (λ m. m < 2 ^ 16) (take legs minutes.new) }
     ensures same { drop legs minutes.new ≡ drop legs minutes.old }
 {
     for i in 0..legs {

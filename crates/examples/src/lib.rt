@@ -6,4 +6,6 @@ mod answer_lines;
 #[cfg(test)]
 mod frame_lines;
 #[cfg(test)]
+mod sheet_runs;
+#[cfg(test)]
 mod whole_texts;

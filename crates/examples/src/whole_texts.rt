@@ -1,6 +1,6 @@
 // An example of a whole text of calls and its answers, with work areas that are just long enough.
 use amounts::{Cents, Kilograms, Ranked};
-use protocol::answer_text;
+use protocol::answer_into;
 use std::test::Fail;
 
 // Two legs, a window and another total; then a window that cannot be met.
@@ -29,7 +29,7 @@ fn two_legs(rt: HostRuntime) -> Result<(), Fail> {
     let mut minutes = [0; 252];
     let mut amounts = [nothing; 252];
     let mut out = Vec::new(rt.alloc());
-    answer_text(CALLS, &mut minutes, &mut amounts, &mut out)?;
+    answer_into(CALLS, &mut minutes, &mut amounts, &mut out)?;
     assert!(rt; out.as_slice() == ANSWERS);
     Ok(())
 }

@@ -10,15 +10,15 @@ use Rattle.frames.specs.declared.faults.FrameFault.{FrameFault}
 use Rattle.frames.specs.declared.faults.FrameFault.TheVariants.{Malformed, UnknownKind, WrongLength, TooLate}
 
 -- a call in words, with its numbers
-abbrev pub call_words : Call → List ℕ
-call_words (Open total) = codes "open with a total of " ++ (decimal total ++ codes " minutes")
-call_words (Bounds leg low high) = codes "bounds of leg " ++ (decimal leg ++ (codes " from " ++ (decimal low ++ (codes " to " ++ (decimal high ++ codes " minutes")))))
-call_words (Window stop low high) = codes "window at stop " ++ (decimal stop ++ (codes " from " ++ (decimal low ++ (codes " to " ++ (decimal high ++ codes " minutes")))))
-call_words (Lift stop) = codes "lift of the window at stop " ++ decimal stop
-call_words (Total total) = codes "total of " ++ (decimal total ++ codes " minutes")
-call_words Close = codes "close"
-call_words (AddLeg q t r lo hi) = codes "formula leg with q " ++ (decimal q ++ (codes ", t " ++ (decimal t ++ (codes ", r " ++ (signed_decimal r ++ (codes ", from " ++ (decimal lo ++ (codes " to " ++ (decimal hi ++ codes " minutes")))))))))
-call_words (SetRate leg rate) = codes "rate of leg " ++ (decimal leg ++ (codes " set to " ++ (decimal rate ++ codes " cents a minute")))
+abbrev pub words_of_call : Call → List ℕ
+words_of_call (Open total) = codes "open with a total of " ++ (decimal total ++ codes " minutes")
+words_of_call (Bounds leg low high) = codes "bounds of leg " ++ (decimal leg ++ (codes " from " ++ (decimal low ++ (codes " to " ++ (decimal high ++ codes " minutes")))))
+words_of_call (Window stop low high) = codes "window at stop " ++ (decimal stop ++ (codes " from " ++ (decimal low ++ (codes " to " ++ (decimal high ++ codes " minutes")))))
+words_of_call (Lift stop) = codes "lift of the window at stop " ++ decimal stop
+words_of_call (Total total) = codes "total of " ++ (decimal total ++ codes " minutes")
+words_of_call Close = codes "close"
+words_of_call (AddLeg q t r lo hi) = codes "formula leg with q " ++ (decimal q ++ (codes ", t " ++ (decimal t ++ (codes ", r " ++ (signed_decimal r ++ (codes ", from " ++ (decimal lo ++ (codes " to " ++ (decimal hi ++ codes " minutes")))))))))
+words_of_call (SetRate leg rate) = codes "rate of leg " ++ (decimal leg ++ (codes " set to " ++ (decimal rate ++ codes " cents a minute")))
 
 -- a refusal in words
 abbrev pub words_of_fault : FrameFault → List ℕ
@@ -29,7 +29,7 @@ words_of_fault TooLate = codes "a leg or a rate after a call of the sheet"
 
 -- the answer to a line in words, with the number of the line and of the refusal
 abbrev pub answer_words : ℕ → Result Call FrameFault → List ℕ
-answer_words number (Ok call) = codes "line " ++ (decimal number ++ (codes ": " ++ call_words call))
+answer_words number (Ok call) = codes "line " ++ (decimal number ++ (codes ": " ++ words_of_call call))
 answer_words number (Err fault) = codes "line " ++ (decimal number ++ (codes ": refused (" ++ (decimal (told fault).number ++ (codes "): " ++ words_of_fault fault))))
 
 -- what is said of a line: its answer in words

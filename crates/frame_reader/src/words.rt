@@ -1,18 +1,15 @@
 // What the reader says of a line, in words.
-ghost use Rattle.std.specs.Prelude.{◌≡◌, take, IfOk, string_bytes};
+ghost use Rattle.std.specs.Prelude.{◌≡◌, IfOk, string_bytes};
 ghost use Rattle.lines.specs.Lines.{lines_of};
-ghost use Rattle.frame_reader.specs.Words.{call_words, words_of_fault, Reports, Says};
+ghost use Rattle.frame_reader.specs.Words.{words_of_call, words_of_fault, Reports, Says};
 
 use frames::{Call, FrameFault};
-use lines::{Lines, start_of};
+use lines::Lines;
 use std::alloc::{AllocError, Global};
-
-// How many characters of a text are read.
-pub const LIMIT: usize = 65535;
 
 // A call in words, with its numbers.
 fn call_words(heap: Global, call: Call) -> Result<String, AllocError>
-    ensures { IfOk result (λ words. string_bytes words ≡ call_words call) }
+    ensures { IfOk result (λ words. string_bytes words ≡ words_of_call call) }
 {
     match call {
         Call::Open { total } => format!(in heap; "open with a total of {total} minutes"),
@@ -63,13 +60,13 @@ fn line_words(heap: Global, number: usize, line: &[u8]) -> Result<String, AllocE
     }
 }
 
-// What is said of every line in the first 65,535 characters of a text, in order; lines are counted from 1.
+// What is said of every line of a text, in order; lines are counted from 1.
 pub fn report(heap: Global, text: &[u8]) -> Result<String, AllocError>
-    ensures { IfOk result (λ all. Reports 1 (lines_of (take 65535 text.now)) (string_bytes all)) }
+    ensures { IfOk result (λ all. Reports 1 (lines_of text.now) (string_bytes all)) }
 {
     let mut all = String::new(heap);
     let mut number = 1;
-    for line in Lines::new(start_of(text, LIMIT)) {
+    for line in Lines::new(text) {
         let words = line_words(heap, number, line)?;
         all.push_str(words.as_str())?;
         all.push('\n')?;

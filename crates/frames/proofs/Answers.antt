@@ -1,6 +1,6 @@
 -- Lemmas on the answer to a line: which one it is, and that there is no other.
 use Rattle.std.proofs.Common.{◌≡◌, ℕ, ◌*◌, ◌<◌, ◌≤◌, List, length, Ok, Err, Result, sym, refl, ap, ◌∙◌, subst, inl, inr, arith}
-use Rattle.std.specs.List.{AllByRecursion as All}
+use Rattle.std.specs.List.{AllByRecursion}
 use Rattle.std.proofs.lemmas.Bool.{cases_order}
 use Rattle.frames.specs.Faults.{told}
 use Rattle.hexadecimal.specs.Hex.{hexed, Hexes, WellFormed}
@@ -44,7 +44,7 @@ answer_decoded line bytes (Err WrongLength) good spelled read =
     first TooLate lower applies = applies
 
 -- the frame of a call is bytes
-small_frame : (c : Call) → Fits c → All (λ b. b < 256) (frame_of c)
+small_frame : (c : Call) → Fits c → AllByRecursion (λ b. b < 256) (frame_of c)
 small_frame (Open total) fits = search arith parts 20
 small_frame (Bounds leg low high) fits = search arith parts 20
 small_frame (Window stop low high) fits = search arith parts 20

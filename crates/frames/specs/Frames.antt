@@ -3,7 +3,7 @@
 use Rattle.std.specs.Prelude.{◌≡◌, ℕ, ◌/◌, ◌%◌, ◌^◌, ◌<◌, List, [], ◌∷◌, ◌++◌, length, drop, ℤ, Result, MatchResult, FitsSigned, ◌≢◌, slice_index}
 use Rattle.std.specs.Int.{w32}
 use Rattle.std.proofs.Common.{of_z}
-use Rattle.std.specs.List.{AllByRecursion as All}
+use Rattle.std.specs.List.{AllByRecursion}
 use Rattle.frames.specs.Faults.{told}
 use Rattle.hexadecimal.specs.Hex.{hexed, Hexes, WellFormed}
 use Rattle.frames.specs.declared.calls.Call.{Call}
@@ -71,11 +71,11 @@ sizes = (0x01, 3) ∷ (0x02, 6) ∷ (0x03, 6) ∷ (0x04, 2) ∷ (0x05, 3) ∷ (0
 
 -- bytes whose kind, the first of them, is none of these
 abbrev pub Unknown : List ℕ → Type 0
-Unknown bytes = All (λ size. size.0 ≢ slice_index bytes 0) sizes
+Unknown bytes = AllByRecursion (λ size. size.0 ≢ slice_index bytes 0) sizes
 
 -- bytes of which there are more or fewer than in the frames of their kind
 abbrev pub Misfits : List ℕ → Type 0
-Misfits bytes = All (λ size. size.0 ≡ slice_index bytes 0 → size.1 ≢ length bytes) sizes
+Misfits bytes = AllByRecursion (λ size. size.0 ≡ slice_index bytes 0 → size.1 ≢ length bytes) sizes
 
 -- why bytes are no frame
 abbrev pub Faulty : List ℕ → FrameFault → Type 0

@@ -1,6 +1,6 @@
 -- Lemmas on hexadecimal: its length, one byte more, the two characters of one turn of a loop, and that it is digits.
 use Rattle.std.proofs.Common.{◌≡◌, ℕ, zero, suc, ◌+◌, ◌*◌, ◌/◌, ◌%◌, ◌<◌, ◌≤◌, List, [], ◌∷◌, ◌++◌, length, get_or, take, drop, set, sym, refl, ap, ◌∙◌, inl, inr, arith}
-use Rattle.std.specs.List.{AllByRecursion as All}
+use Rattle.std.specs.List.{AllByRecursion}
 use Rattle.std.proofs.lemmas.Bool.{cases_lt, le-ltb, lt-ltb}
 use Rattle.std.proofs.lemmas.List.{append_assoc, drop-drop, drop_more, drop-set-lt, set_at, take_more, take_more_set, length_push, length-take-le}
 use Rattle.hexadecimal.specs.Hex.{digit, Digit, Digits, hexed, Stands}
@@ -84,7 +84,7 @@ digit_is n small = elim (cases_lt n 10) [
   | inr high ↦ rw (le-ltb n 10 high) (inr (omega arith, omega arith))
 ]
 
-pub digits_hexed : (bs : List ℕ) → All (λ b. b < 256) bs → Digits (hexed bs)
+pub digits_hexed : (bs : List ℕ) → AllByRecursion (λ b. b < 256) bs → Digits (hexed bs)
 digits_hexed [] small k less = absurd (omega arith)
 digits_hexed (b ∷ bs) small zero less = digit_is (b / 16) (omega (arith, small.0))
 digits_hexed (b ∷ bs) small (suc zero) less = digit_is (b % 16) (omega arith)

@@ -1,6 +1,6 @@
 -- Lemmas on the lines of a text: the first line, and that the lines are the only ones that make up the text.
 use Rattle.std.proofs.Common.{◌≡◌, ℕ, zero, suc, ◌+◌, ◌<◌, ◌≤◌, cond, eqb, List, [], ◌∷◌, ◌++◌, length, get_or, take, drop, sym, refl, ap, ◌∙◌, inl, inr, add-one, arith}
-use Rattle.std.specs.List.{AllByRecursion as All}
+use Rattle.std.specs.List.{AllByRecursion}
 use Rattle.std.proofs.lemmas.List.{nil_from_length}
 use Rattle.std.proofs.lemmas.Bool.{cases_eq, cond-false, cond-true, eq-eqb, ne_eqb}
 use Rattle.lines.specs.Lines.{ended, closed, Splits, grown, lines_of}
@@ -41,14 +41,14 @@ few_lines (x ∷ text) =
 
 -- no line holds a line feed
 Free : List ℕ → Type 0
-Free = All (λ x. x ≡ 10 → ⊥)
+Free = AllByRecursion (λ x. x ≡ 10 → ⊥)
 
-free_grown : (x : ℕ) (lines : List (List ℕ)) → (x ≡ 10 → ⊥) → All Free lines → All Free (grown x lines)
+free_grown : (x : ℕ) (lines : List (List ℕ)) → (x ≡ 10 → ⊥) → AllByRecursion Free lines → AllByRecursion Free (grown x lines)
 unfolding Free
 free_grown x [] ne free = ((ne, tt), tt)
 free_grown x (line ∷ lines) ne free = ((ne, free.0), free.1)
 
-free_lines_of : (text : List ℕ) → All Free (lines_of text)
+free_lines_of : (text : List ℕ) → AllByRecursion Free (lines_of text)
 unfolding Free
 free_lines_of [] = tt
 free_lines_of (x ∷ text) =
@@ -97,7 +97,7 @@ unfolding Free
 lines_of_line [] rest free = refl
 lines_of_line (x ∷ line) rest free = rw (ne_eqb x 10 free.0) (ap (grown x) (lines_of_line line rest free.1))
 
-lines_of_ended : (lines : List (List ℕ)) → All Free lines → lines_of (ended lines) ≡ lines
+lines_of_ended : (lines : List (List ℕ)) → AllByRecursion Free lines → lines_of (ended lines) ≡ lines
 lines_of_ended [] free = refl
 lines_of_ended (line ∷ lines) free =
     lines_of_line line (ended lines) free.0 ∙ ap (λ t. line ∷ t) (lines_of_ended lines free.1)

@@ -1,7 +1,7 @@
 -- The lines of a text. A line feed is the character 10.
 -- Assumes nothing.
 use Rattle.std.specs.Prelude.{◌≡◌, ℕ, cond, List, [], ◌∷◌, ◌++◌, ◌==◌, ◌≢◌}
-use Rattle.std.specs.List.{flat_map, AllByRecursion as All}
+use Rattle.std.specs.List.{flat_map, AllByRecursion}
 
 -- the lines, each followed by its line feed
 abbrev pub ended : List (List ℕ) → List ℕ
@@ -15,7 +15,7 @@ closed (x ∷ y ∷ text) = x ∷ closed (y ∷ text)
 
 -- the lines of a text: no line holds a line feed, and with their line feeds they are the text, in its order
 pub record Splits (text : List ℕ) (lines : List (List ℕ)) : Type 0 where
-  pub free : All (All (λ x. x ≢ 10)) lines
+  pub free : AllByRecursion (AllByRecursion (λ x. x ≢ 10)) lines
   pub whole : ended lines ≡ closed text
 
 -- a character put in front of the first line

@@ -11,4 +11,4 @@ mod timing;
 
 pub use fault::LineFault;
 pub use program::serve;
-pub use text::answer_text;
+pub use text::{answer_into, answer_text};

@@ -40,8 +40,7 @@ fn answer_input(rt: &HostRuntime) -> anyhow::Result<()> {
     }
     let mut minutes = minute_area(rt.alloc())?;
     let mut amounts = amount_area(rt.alloc())?;
-    let mut answers = Vec::new(rt.alloc());
-    answer_text(text.as_slice(), &mut minutes, &mut amounts, &mut answers)?;
+    let answers = answer_text(rt.alloc(), text.as_slice(), &mut minutes, &mut amounts)?;
     rt.stdout().write_all(answers.as_slice())?;
     Ok(())
 }

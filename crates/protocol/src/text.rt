@@ -1,9 +1,9 @@
 // A whole text of calls, and the text that answers it.
-ghost use Rattle.std.specs.Prelude.{◌≡◌, ◌+◌, ◌*◌, ◌≤◌, true, length, take, is_ok, vec_len, vec_capacity};
+ghost use Rattle.std.specs.Prelude.{◌≡◌, ◌+◌, ◌*◌, ◌≤◌, true, length, take, IfOk, is_ok, vec_len, vec_capacity};
 ghost use Rattle.answers.specs.Meaning.{meant};
 ghost use Rattle.lines.specs.Lines.{lines_of};
 ghost use Rattle.states.specs.States.{lent};
-ghost use Rattle.protocol.specs.Conversation.{Says};
+ghost use Rattle.protocol.specs.Conversation.{Conversation, Says};
 ghost use Rattle.protocol.specs.Desks.{reply};
 ghost use Rattle.protocol.specs.Faults.{told};
 
@@ -13,7 +13,7 @@ use crate::timing::Timing;
 use amounts::{Cents, Kilograms, Ranked};
 use answers::Answer;
 use lines::{Lines, start_of};
-use std::alloc::AllocError;
+use std::alloc::{AllocError, Global};
 
 // How many characters of a text are read.
 pub(crate) const LIMIT: usize = 65535;
@@ -38,7 +38,7 @@ fn answer_of<'a>(number: u16, outcome: &'a Result<Option<Timing>, LineFault>) ->
 
 // Appends the answers to the lines in the first 65,535 characters of a text, each one line, with these work areas for the
 // sheet. It fails only for want of memory, and never where there is room for 293 characters a line, the longest answer.
-pub fn answer_text(
+pub fn answer_into(
     text: &[u8],
     minutes: &mut [u16],
     amounts: &mut [Ranked<Kilograms, Cents>],
@@ -55,4 +55,19 @@ pub fn answer_text(
         answer_of(number, &outcome).write(out)?;
     }
     Ok(())
+}
+
+// The answers to the lines in the first 65,535 characters of a text, each one line, with these work areas for the sheet. It
+// fails only for want of memory.
+pub fn answer_text(
+    heap: Global,
+    text: &[u8],
+    minutes: &mut [u16],
+    amounts: &mut [Ranked<Kilograms, Cents>],
+) -> Result<Vec<u8>, AllocError>
+    ensures { IfOk result (λ out. Conversation (lent minutes.old amounts.old) (lines_of (take 65535 text.now)) out.items) }
+{
+    let mut out = Vec::new(heap);
+    answer_into(text, minutes, amounts, &mut out)?;
+    Ok(out)
 }

@@ -1,5 +1,5 @@
 // Any list of calls on a new sheet, and the whole promise of it.
-ghost use Rattle.std.specs.Prelude.{◌≡◌, ◌<◌, map, length, take, drop, OnErr, slice_set};
+ghost use Rattle.std.specs.Prelude.{◌≡◌, ◌<◌, map, length, take, drop, IfOk, OnErr, slice_set};
 ghost use Rattle.register.specs.Register.{Run, blank};
 ghost use Rattle.register.specs.Replies.{reply};
 ghost use Rattle.sheet.specs.Runs.{fed, OneAnswer};
@@ -8,6 +8,7 @@ ghost use Rattle.states.specs.States.{reading, lent, Sound, Carried};
 use crate::sheet::Sheet;
 use books::Book;
 use register::{Call, SheetFault};
+use std::alloc::{AllocError, Global};
 
 // A call, and how many places of the two work areas it is handed.
 #[derive(Clone, Copy)]
@@ -44,7 +45,7 @@ fn put<T: Copy>(places: &mut [T], k: usize, value: T)
 // Makes a blank sheet over a book and carries out a list of calls on it, each with as many places of the two areas as it asks
 // for, as far as the areas reach. Each answer goes into its place of `answers`: a call that has no place there is not made, and a
 // place that no call has is left as it was.
-pub fn run<B: Book>(
+pub fn run_into<B: Book>(
     book: B,
     calls: &[Asked],
     minutes: &mut [u16],
@@ -66,4 +67,24 @@ pub fn run<B: Book>(
         put(answers, k, answer);
     }
     sheet
+}
+
+// Makes a blank sheet over a book and carries out any list of calls on it, each with as many places of the two areas as it
+// asks for, as far as the areas reach. It gives the sheet and the answers, one for each call; it fails only for want of memory
+// for the answers, before the first call.
+pub fn run<B: Book + Drop>(
+    heap: Global,
+    book: B,
+    calls: &[Asked],
+    minutes: &mut [u16],
+    amounts: &mut [B::Cost],
+) -> Result<(Sheet<B>, Vec<Result<Option<B::Cost>, SheetFault>>), AllocError>
+    ensures register { IfOk result (λ out. Run (B.meaning book) B.Cost.Amount.le blank (fed (lent minutes.old amounts.old) calls.now) (map (reply B.Cost.Amount.row) out.1.items) (reading out.0.state)) }
+    ensures sound { IfOk result (λ out. Sound (B.meaning book) B.Cost.Amount.le out.0.state) }
+    ensures over { IfOk result (λ out. out.0.book ≡ book) }
+    ensures one { OneAnswer (B.meaning book) B.Cost.Amount.le B.Cost.Amount.places }
+{
+    let mut answers = vec![in heap; Ok(None); calls.len()]?;
+    let sheet = run_into(book, calls, minutes, amounts, &mut answers);
+    Ok((sheet, answers))
 }

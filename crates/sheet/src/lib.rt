@@ -4,5 +4,5 @@
 mod calls;
 mod sheet;
 
-pub use calls::{Asked, run};
+pub use calls::{Asked, run, run_into};
 pub use sheet::Sheet;

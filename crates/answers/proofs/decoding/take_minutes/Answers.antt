@@ -1,5 +1,5 @@
 use Rattle.std.proofs.Common.{ℕ, ◌+◌, ◌*◌, ◌<◌, List, length, take, drop, sym, ap, ◌∙◌, subst, arith, rules}
-use Rattle.std.specs.List.{AllByRecursion as All}
+use Rattle.std.specs.List.{AllByRecursion}
 use Rattle.std.proofs.ByRecursion.{All-push}
 use Rattle.std.proofs.lemmas.List.{take_more_set}
 use Rattle.hexadecimal.proofs.Digits.{rest_more}
@@ -21,6 +21,6 @@ loop-i-preserved c =
           ∙ ap (words before) (word_at c.args.fields.now c.type_inv.fields i n (omega arith) c.from_be_bytes.ensures)
           ∙ sym (words_push before n rest)
           ∙ ap (λ ns. words ns rest) (sym more),
-      subst (All (λ m. m < 65536)) (sym more) (All-push (λ m. m < 65536) before n c.loop-i.invariant.1 small),
+      subst (AllByRecursion (λ m. m < 65536)) (sym more) (All-push (λ m. m < 65536) before n c.loop-i.invariant.1 small),
       rest_more c.loop-i.minutes c.args.minutes.now i n c.loop-i.invariant.2,
     )

@@ -1,5 +1,5 @@
 use Rattle.std.proofs.Common.{◌≡◌, ◌*◌, ◌^◌, ◌<◌, take, drop}
-use Rattle.std.specs.List.{AllByRecursion as All}
+use Rattle.std.specs.List.{AllByRecursion}
 use Rattle.answers.specs.Spelling.{words}
 use Rattle.answers.proofs.decoding.take_minutes.Given as goal
 
@@ -7,5 +7,5 @@ use Rattle.answers.proofs.decoding.take_minutes.Given as goal
 abbrev pub invariant-loop-i : goal.invariant-loop-i
 invariant-loop-i l =
     (l.fields ≡ words (take l.i l.minutes) (drop (2 * l.i) l.fields))
-    × All (λ m. m < 2 ^ 16) (take l.i l.minutes)
+    × AllByRecursion (λ m. m < 2 ^ 16) (take l.i l.minutes)
     × (drop l.i l.minutes ≡ drop l.i l.initial.minutes)

@@ -1,4 +1,4 @@
-use Rattle.std.proofs.Common.{◌≡◌, [], ◌∷◌, ◌++◌, length, take, string_bytes, sym, ap, ◌∙◌, subst, arith, length-take, rules}
+use Rattle.std.proofs.Common.{◌≡◌, [], ◌∷◌, ◌++◌, length, string_bytes, sym, ap, ◌∙◌, subst, arith, rules}
 use Rattle.lines.specs.Lines.{lines_of}
 use Rattle.lines.specs.Reader.{to_come}
 use Rattle.frame_reader.specs.Words.{Reports}
@@ -7,11 +7,10 @@ use Rattle.frame_reader.proofs.words.report.Goals as goal
 
 pub loop-line-init : goal.loop-line-init
 loop-line-init c =
-    let cut = c.start_of.ensures in
     let all = ap to_come c.into_iter-line-iterator.ensures.into_iter_gives ∙ c.new-line-items.ensures.all in (
-      λ rest said. subst (λ bytes. Reports 1 (lines_of (take 65535 c.args.text.now)) (bytes ++ rest)) (sym c.new-all.ensures.bytes)
-          (subst (λ lines. Reports 1 lines rest) (all ∙ ap lines_of cut) said),
-      omega (arith, ap length all, c.new-line-items.ensures.bound, ap length cut, length-take 65535 c.args.text.now),
+      λ rest said. subst (λ bytes. Reports 1 (lines_of c.args.text.now) (bytes ++ rest)) (sym c.new-all.ensures.bytes)
+          (subst (λ lines. Reports 1 lines rest) all said),
+      omega (arith, ap length all, c.new-line-items.ensures.bound),
     )
 
 pub loop-line-preserved : goal.loop-line-preserved
@@ -19,10 +18,10 @@ loop-line-preserved c =
     let step = c.in-Some.ensures.steps in
     let next : string_bytes c.push.new.self ≡ (string_bytes c.loop-line.all ++ string_bytes c.in_ok-words.words) ++ 10 ∷ [] =
     search rules in (
-      report_more (Reports 1 (lines_of (take 65535 c.args.text.now))) c.loop-line.number _ _ c.loop-line.invariant.0
+      report_more (Reports 1 (lines_of c.args.text.now)) c.loop-line.number _ _ c.loop-line.invariant.0
           c.in-Some.line.now _ _ _ step c.in_ok-words.ensures next,
       omega (arith, c.loop-line.invariant.1, ap length step),
     )
 
 pub returns : goal.returns
-returns c = report_all (Reports 1 (lines_of (take 65535 c.args.text.now))) c.loop-line.number _ _ c.loop-line.invariant.0 c.in-None.ensures.steps.0
+returns c = report_all (Reports 1 (lines_of c.args.text.now)) c.loop-line.number _ _ c.loop-line.invariant.0 c.in-None.ensures.steps.0

@@ -8,7 +8,7 @@ use Rattle.protocol.specs.Conversation.{Answers, Line}
 use Rattle.protocol.specs.Desks.{stage, reply}
 use Rattle.protocol.specs.Faults.{told}
 use Rattle.protocol.proofs.Conversing.{answers_more, answers_all}
-use Rattle.protocol.proofs.text.answer_text.Goals as goal
+use Rattle.protocol.proofs.text.answer_into.Goals as goal
 
 pub loop-line-init : goal.loop-line-init
 loop-line-init c =

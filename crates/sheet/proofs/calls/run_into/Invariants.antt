@@ -3,7 +3,7 @@ use Rattle.register.specs.Register.{Run, blank}
 use Rattle.register.specs.Replies.{reply}
 use Rattle.sheet.specs.Runs.{fed}
 use Rattle.states.specs.States.{reading, lent, Sound}
-use Rattle.sheet.proofs.calls.run.Given as goal
+use Rattle.sheet.proofs.calls.run_into.Given as goal
 
 abbrev pub invariant-loop-k : goal.invariant-loop-k
 invariant-loop-k g l =

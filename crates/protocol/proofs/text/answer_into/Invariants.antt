@@ -3,7 +3,7 @@ use Rattle.lines.specs.Reader.{to_come}
 use Rattle.states.specs.States.{lent}
 use Rattle.protocol.specs.Conversation.{Answers}
 use Rattle.protocol.specs.Desks.{stage, Sane}
-use Rattle.protocol.proofs.text.answer_text.Given as goal
+use Rattle.protocol.proofs.text.answer_into.Given as goal
 
 -- whatever answers the lines to come makes the conversation whole; the sheet is sound; there are not too many lines; and there is
 -- room for the lines to come if there was for all
