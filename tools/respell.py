@@ -14,6 +14,7 @@ import sys
 # facts that were spelled as words, and words that would fall together with a function of src/
 GIVEN = {
     'by_number': 'ByNumber', 'ranked': 'ByRank', 'kilograms-first': 'KilogramsFirst', 'no-dearer': 'NoDearer',
+    'two-shut': 'two_shut', 'two-legs': 'two_legs', 'three-legs': 'three_legs',
     'cost-of': 'cost_of_timing', 'centsWords': 'words_of_cents', 'kilogramsWords': 'words_of_kilograms',
     'faultWords': 'words_of_fault', 'refusalWords': 'words_of_refusal', 'lastMinute': 'last_minute_of',
 }

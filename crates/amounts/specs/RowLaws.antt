@@ -1,5 +1,5 @@
 -- The laws of rows: sums, differences, multiples, and what every order of rows keeps.
-use Rattle.std.specs.Prelude.{◌≡◌, ℕ, ℤ, ◌+ℤ◌}
+use Rattle.std.specs.Prelude.{◌≡◌, ℕ, ℤ, pos, ◌+ℤ◌}
 use Rattle.std.proofs.Common.{sym, ◌∙◌, inl, inr, arith}
 use Rattle.std.proofs.Math.Path.{fun_ext}
 use Rattle.std.proofs.Math.IntN.{+ℤ_assoc, +ℤ_comm}
@@ -28,6 +28,10 @@ unfolding plus minus none
 minus_is_plus x y = fun_ext (λ k. omega (arith, ints))
 
 -- ---- multiples
+
+pub times_one : (p : Row) → times (pos 1) p ≡ p
+unfolding times
+times_one p = fun_ext (λ k. int.one_times (p k))
 
 pub times_sum : (s t : ℤ) (p : Row) → times (s +ℤ t) p ≡ plus (times s p) (times t p)
 unfolding times plus

@@ -84,11 +84,11 @@ three = left (G 3) blank (Open 174)
 abbrev pub two : Register
 two = left (G 2) blank (Open 120)
 
-abbrev pub two-shut : Register
-two-shut = left (G 2) two (Window 1 50 61)
+abbrev pub two_shut : Register
+two_shut = left (G 2) two (Window 1 50 61)
 
 abbrev pub two_longer : Register
-two_longer = left (G 2) two-shut (Total 125)
+two_longer = left (G 2) two_shut (Total 125)
 
 -- their prices: the step from 60 to 61 minutes on leg 1, and that from 63 to 64 on leg 2
 abbrev pub two_prices : List Price
@@ -100,17 +100,17 @@ pub record Samples : Type 0 where
   pub one_leg : Granted (G 1) ByNumber blank (Open 60) ((60 ∷ []) ∷ []) (kilograms 0)
   pub one_leg_late : Impossible (G 1) ByNumber blank (Open 71) 1
   -- three legs in 174 minutes, and then a window after the second; where it shuts too early, leg 3 cannot make up for it
-  pub three-legs : Granted (G 3) ByNumber blank (Open 174) ((58 ∷ 58 ∷ 58 ∷ []) ∷ []) (kilograms 12)
+  pub three_legs : Granted (G 3) ByNumber blank (Open 174) ((58 ∷ 58 ∷ 58 ∷ []) ∷ []) (kilograms 12)
   pub shut_at_105 : Granted (G 3) ByNumber three (Window 2 100 105) ((52 ∷ 53 ∷ 69 ∷ []) ∷ (53 ∷ 52 ∷ 69 ∷ []) ∷ []) (kilograms 194)
   pub shut_at_104 : Granted (G 3) ByNumber three (Window 2 100 104) ((52 ∷ 52 ∷ 70 ∷ []) ∷ []) (kilograms 228)
   pub shut_at_103 : Impossible (G 3) ByNumber three (Window 2 100 103) 3
   -- two legs, then a window, and then another total: the timing, and the prices 1 and 7, which keep the rule
-  pub two-legs : Granted (G 2) ByNumber blank (Open 120) ((60 ∷ 60 ∷ []) ∷ []) (kilograms 0)
+  pub two_legs : Granted (G 2) ByNumber blank (Open 120) ((60 ∷ 60 ∷ []) ∷ []) (kilograms 0)
   pub shut_at_61 : Granted (G 2) ByNumber two (Window 1 50 61) ((60 ∷ 60 ∷ []) ∷ []) (kilograms 0)
-  pub longer : Granted (G 2) ByNumber two-shut (Total 125) ((61 ∷ 64 ∷ []) ∷ []) (kilograms 17)
+  pub longer : Granted (G 2) ByNumber two_shut (Total 125) ((61 ∷ 64 ∷ []) ∷ []) (kilograms 17)
   pub price_1 : worth (G 2) (priced two_prices 1) ≡ kilograms 1
   pub price_7 : worth (G 2) (priced two_prices 2) ≡ kilograms 7
-  pub prices : PriceRule (G 2) ByNumber (after (G 2) two-shut (Total 125)) (flown (61 ∷ 64 ∷ [])) (priced two_prices)
+  pub prices : PriceRule (G 2) ByNumber (after (G 2) two_shut (Total 125)) (flown (61 ∷ 64 ∷ [])) (priced two_prices)
   -- then a window that leg 1 cannot meet: what stood, with the timing 61 64, stands still
   pub too_early : Impossible (G 2) ByNumber two_longer (Window 1 10 20) 1
   -- two legs with rates: cents decide where kilograms do not, and only there
