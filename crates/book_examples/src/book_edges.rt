@@ -1,5 +1,4 @@
 // Examples at the edges of the books' ranges.
-use amounts::Kilograms;
 use books::{Book, BookFault, Ends, FormulaBook, FormulaLeg};
 use charges::ChargeBook;
 use joins::JoinedBook;
@@ -16,15 +15,15 @@ fn free(lo: u16, hi: u16) -> FormulaLeg {
     }
 }
 
-// The row and the leg that a refusal tells.
-fn told(res: Result<(), BookFault>) -> Option<(u8, u8)> {
-    let refusal = res.err()?.refusal();
-    Some((refusal.number, refusal.leg))
-}
-
-// The kilograms of some minutes on a leg.
-fn kilograms(book: &FormulaBook, leg: usize, minutes: u16) -> Option<i64> {
-    Some(book.cost(leg, minutes)?.value())
+// What a refused leg or rate tells.
+fn refused(res: Result<(), BookFault>) -> Result<(u8, u8), Fail> {
+    match res {
+        Ok(()) => Err(Fail::new("granted")),
+        Err(fault) => {
+            let refusal = fault.refusal();
+            Ok((refusal.number, refusal.leg))
+        }
+    }
 }
 
 // The dearest minute of all: 65,535 kilograms times the square of 4,095, and 2^29.
@@ -45,20 +44,15 @@ fn dearest_minute(rt: HostRuntime) -> Result<(), Fail> {
         lo: 50,
         hi: 70,
     })?;
-    let costs = [
-        (1, 4095, Some(1_099_494_924_287)),
-        (2, 50, Some(-536_870_812)),
-        (2, 49, None),
-        (2, 71, None),
-        (3, 50, None),
-    ];
-    for (leg, minutes, expected) in costs {
-        assert_eq!(rt; kilograms(&book, leg, minutes), expected);
-    }
-    for (leg, ends) in [(0, None), (2, Some(Ends { lo: 50, hi: 70 })), (3, None)] {
-        assert_eq!(rt; book.ends(leg), ends);
-    }
     assert_eq!(rt; book.legs(), 2);
+    assert_eq!(rt;
+        book.cost(1, 4095).ok_or("absent")?.value(),
+        1_099_494_924_287
+    );
+    assert_eq!(rt; book.cost(2, 50).ok_or("absent")?.value(), -536_870_812);
+    assert!(rt; book.cost(2, 49).is_none() && book.cost(2, 71).is_none());
+    assert!(rt; book.ends(0).is_none() && book.ends(3).is_none());
+    assert_eq!(rt; book.ends(2).ok_or("absent")?, Ends { lo: 50, hi: 70 });
     Ok(())
 }
 
@@ -67,28 +61,23 @@ fn dearest_minute(rt: HostRuntime) -> Result<(), Fail> {
 fn refused_legs(rt: HostRuntime) -> Result<(), Fail> {
     let mut book = FormulaBook::new();
     book.add_leg(free(0, 4095))?;
+    assert_eq!(rt; refused(book.add_leg(free(9, 8)))?, (6, 2));
+    assert_eq!(rt; refused(book.add_leg(free(9, 4096)))?, (6, 2));
     let late = FormulaLeg {
         t: 4096,
         ..free(8, 9)
     };
+    assert_eq!(rt; refused(book.add_leg(late))?, (6, 2));
     let dear = FormulaLeg {
         r: 536_870_913,
         ..free(8, 9)
     };
+    assert_eq!(rt; refused(book.add_leg(dear))?, (7, 2));
     let both = FormulaLeg {
         r: -536_870_913,
         ..free(9, 8)
     };
-    let legs = [
-        (free(9, 8), 6),
-        (free(9, 4096), 6),
-        (late, 6),
-        (dear, 7),
-        (both, 6),
-    ];
-    for (leg, row) in legs {
-        assert_eq!(rt; told(book.add_leg(leg)), Some((row, 2)));
-    }
+    assert_eq!(rt; refused(book.add_leg(both))?, (6, 2));
     assert_eq!(rt; book.legs(), 1);
     Ok(())
 }
@@ -99,7 +88,7 @@ fn full_book(rt: HostRuntime) -> Result<(), Fail> {
     for _ in 0..64 {
         book.add_leg(free(1, 2))?;
     }
-    assert_eq!(rt; told(book.add_leg(free(9, 8))), Some((5, 65)));
+    assert_eq!(rt; refused(book.add_leg(free(9, 8)))?, (5, 65));
     assert_eq!(rt; book.legs(), 64);
     Ok(())
 }
@@ -109,15 +98,10 @@ fn full_book(rt: HostRuntime) -> Result<(), Fail> {
 fn charges(rt: HostRuntime) -> Result<(), Fail> {
     let mut book = ChargeBook::new(FormulaBook::new());
     book.add_leg(free(50, 70))?;
-    let rates = [
-        (1, 3, None),
-        (64, 65535, None),
-        (0, 1, Some((11, 0))),
-        (65, 1, Some((11, 65))),
-    ];
-    for (leg, rate, refusal) in rates {
-        assert_eq!(rt; told(book.set_rate(leg, rate)), refusal);
-    }
+    book.set_rate(1, 3)?;
+    book.set_rate(64, 65535)?;
+    assert_eq!(rt; refused(book.set_rate(0, 1))?, (11, 0));
+    assert_eq!(rt; refused(book.set_rate(65, 1))?, (11, 65));
     let cost = book.cost(1, 70).ok_or("absent")?;
     assert_eq!(rt; (cost.first.value(), cost.second.value()), (0, 210));
     assert_eq!(rt; book.below().legs(), 1);
