@@ -32,8 +32,8 @@ fn amount_area(heap: Global) -> Result<Vec<Ranked<Kilograms, Cents>>, AllocError
     Ok(area)
 }
 
-// Answers the first characters of the input.
-fn answer_input(rt: &HostRuntime) -> anyhow::Result<()> {
+// Answers the first characters of standard input on standard output; what goes wrong is the error that `main` tells.
+pub fn serve(rt: &HostRuntime) -> anyhow::Result<()> {
     let mut text = Vec::new(rt.alloc());
     if let Err(error) = rt.stdin().take(LIMIT as u64).read_to_end(&mut text) {
         return Err(anyhow!(format!(in rt.alloc(); "the input cannot be read: {error}")?));
@@ -43,13 +43,4 @@ fn answer_input(rt: &HostRuntime) -> anyhow::Result<()> {
     let answers = answer_text(rt.alloc(), text.as_slice(), &mut minutes, &mut amounts)?;
     rt.stdout().write_all(answers.as_slice())?;
     Ok(())
-}
-
-// Answers standard input on standard output; what goes wrong is told in one line on standard error.
-pub fn serve(rt: &HostRuntime) -> anyhow::Result<()> {
-    let outcome = answer_input(rt);
-    if let Err(error) = &outcome {
-        eprintln!(rt; "rotation: {error}")?;
-    }
-    outcome
 }
