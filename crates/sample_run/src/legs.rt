@@ -42,12 +42,12 @@ pub(crate) fn charge_book(q: u16) -> ChargeBook<FormulaBook>
     book
 }
 
-// What a price is worth in a book: what one minute more than the price names costs on its leg, or zero where it names zero.
-// Absent exactly if the price names neither zero nor a step of the book.
+// What a price is worth in a book: what one minute more than the price names costs on its leg, and zero on leg 0. Absent only if
+// the price names neither zero nor a step of the book.
 pub(crate) fn worth(book: &FormulaBook, price: Price) -> Option<Kilograms>
-    ensures { options.MatchOption result (prices.Named (formulas book.now.legs book.now.count) price → ⊥) (λ a. prices.Named (formulas book.now.legs book.now.count) price × (single (nearest a.value) ≡ prices.worth (formulas book.now.legs book.now.count) price)) }
+    ensures { options.MatchOption result (prices.Named (formulas book.now.legs book.now.count) price → ⊥) (λ a. single (nearest a.value) ≡ prices.worth (formulas book.now.legs book.now.count) price) }
 {
-    if price.leg == 0 && price.minute == 0 {
+    if price.leg == 0 {
         return Some(Kilograms::zero());
     }
     book.keeps_laws();

@@ -1,4 +1,4 @@
-use Rattle.std.proofs.Common.{◌≡◌, ℕ, ◌+◌, Some, None, Option, sym, ◌∙◌, subst, ap₂, inl, inr, MatchOption}
+use Rattle.std.proofs.Common.{◌≡◌, ℕ, ◌+◌, Some, None, Option, sym, ◌∙◌, subst, ap₂, MatchOption}
 use Rattle.amounts.specs.Rows.{Row, Exactly, InRange, minus}
 use Rattle.books.specs.Formula.{formulas}
 use Rattle.books.specs.Meaning.{step}
@@ -7,19 +7,17 @@ use Rattle.optimum.proofs.Fair.{worth-none, worth-step}
 use Rattle.optimum.proofs.Sums.{step_range}
 use Rattle.sample_run.proofs.legs.worth.Goals as goal
 
-pub returns-then-price-eq0-2 : goal.returns-then-price-eq0-2
-returns-then-price-eq0-2 c =
-    let book = c.args.book.now in (
-      inl (c.if-price-eq0.true, c.if-price-eq0-2.true),
-      c.zero.ensures ∙ sym (worth-none (formulas book.legs book.count) c.args.price c.if-price-eq0.true),
-    )
+pub returns-then-price-eq0 : goal.returns-then-price-eq0
+returns-then-price-eq0 c =
+    let book = c.args.book.now in
+    c.zero.ensures ∙ sym (worth-none (formulas book.legs book.count) c.args.price c.if-price-eq0.true)
 
 -- an exact answer in the range is there, and is what it is known to be
 there :
-    {A : Type 0} (r : Option A) (n : ℕ) (row : A → Row) (x y : Row) (P : Type 0) → Exactly n row x r → InRange n y → x ≡ y → P →
-    MatchOption r (P → ⊥) (λ a. P × (row a ≡ y))
-there None n row x y P exact range is holds = absurd (exact (subst (InRange n) (sym is) range))
-there (Some a) n row x y P exact range is holds = (holds, exact.1 ∙ is)
+    {A : Type 0} (r : Option A) (n : ℕ) (row : A → Row) (x y : Row) (P : Type 0) → Exactly n row x r → InRange n y → x ≡ y →
+    MatchOption r (P → ⊥) (λ a. row a ≡ y)
+there None n row x y P exact range is = absurd (exact (subst (InRange n) (sym is) range))
+there (Some a) n row x y P exact range is = exact.1 ∙ is
 
 pub returns : goal.returns
 unfolding step
@@ -31,4 +29,4 @@ returns c =
     let before = c.in_ok-before.ensures in
     let is = worth-step b c.args.price before.0.0.0 in
     let range = step_range b c.keeps_laws.ensures.range c.args.price.leg c.args.price.minute before.0 after.0 in
-    there _ 1 _ _ _ (Named b c.args.price) c.checked_sub.ensures (subst (InRange 1) (sym is) range) (ap₂ minus after.1 before.1 ∙ sym is) (inr (before.0.0, before.0.1, after.0.2))
+    there _ 1 _ _ _ (Named b c.args.price) c.checked_sub.ensures (subst (InRange 1) (sym is) range) (ap₂ minus after.1 before.1 ∙ sym is)
