@@ -1,11 +1,14 @@
 // What the reader says of a line, in words.
-ghost use Rattle.std.specs.Prelude.{◌≡◌, IfOk, string_bytes};
+ghost use Rattle.std.specs.Prelude.{◌≡◌, take, IfOk, string_bytes};
 ghost use Rattle.lines.specs.Lines.{lines_of};
 ghost use Rattle.frame_reader.specs.Words.{words_of_call, words_of_fault, Reports, Says};
 
 use frames::{Call, FrameFault};
-use lines::Lines;
+use lines::{Lines, start_of};
 use std::alloc::{AllocError, Global};
+
+// How many characters of the input are read.
+pub const LIMIT: usize = 65535;
 
 // A call in words, with its numbers.
 fn call_words(heap: Global, call: Call) -> Result<String, AllocError>
@@ -73,4 +76,11 @@ pub fn report(heap: Global, text: &[u8]) -> Result<String, AllocError>
         number += 1;
     }
     Ok(all)
+}
+
+// What is said of every line in the first 65,535 characters of a text, as `report` says it.
+pub fn report_start(heap: Global, text: &[u8]) -> Result<String, AllocError>
+    ensures { IfOk result (λ all. Reports 1 (lines_of (take 65535 text.now)) (string_bytes all)) }
+{
+    report(heap, start_of(text, LIMIT))
 }
