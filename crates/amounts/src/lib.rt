@@ -5,14 +5,11 @@ ghost use Rattle.std.specs.Prelude.{◌≡◌, ℕ};
 ghost use Rattle.amounts.specs.Rows.{Row, none, plus, minus, Ends, InRange, Exactly};
 ghost use Rattle.amounts.specs.Orders.{Order, Tells};
 
-mod cents;
-mod kilograms;
 mod ranked;
 mod single;
 
-pub use cents::Cents;
-pub use kilograms::Kilograms;
 pub use ranked::Ranked;
+pub use single::{Cent, Cents, Kilogram, Kilograms, Single, Unit};
 
 // A kind of amount. An amount means a row of whole numbers, each from -2^47 to 2^47, as many as the kind says.
 pub trait Amount: Copy {

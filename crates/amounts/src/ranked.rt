@@ -1,10 +1,12 @@
 // Ranked amounts: any kind and then any other kind.
-ghost use Rattle.std.specs.Prelude.{◌+◌};
+ghost use Rattle.std.specs.Prelude.{◌+◌, Some, codes};
+ghost use Rattle.std.specs.Fmt.{◌++?◌};
 ghost use Rattle.amounts.specs.Rows.{joined};
 ghost use Rattle.amounts.specs.Orders.{ByRank};
 ghost use Rattle.amounts.specs.JoinedRows.{ranked_order, joined-within, joined_ends};
 
 use crate::Amount;
+use std::fmt;
 
 // An amount of one kind and behind it one of another: the first decides, and the second decides between equals.
 #[derive(Clone, Copy)]
@@ -50,5 +52,14 @@ impl<A: Amount, B: Amount> Amount for Ranked<A, B> {
             return false;
         }
         !other.first.at_most(self.first) || self.second.at_most(other.second)
+    }
+}
+
+// The first part, and then the second.
+impl<A: fmt::Display, B: fmt::Display> fmt::Display for Ranked<A, B> {
+    ghost output = { λ a. A.output a.first ++? Some (codes " then ") ++? B.output a.second };
+
+    fn fmt<W: fmt::Write>(&self, f: &mut fmt::Formatter<W>) -> fmt::Result {
+        write!(f, "{} then {}", self.first, self.second)
     }
 }

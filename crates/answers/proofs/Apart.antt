@@ -1,8 +1,10 @@
 -- Answers taken back from their lines: no two answers share one, and each is well formed.
-use Rattle.std.proofs.Common.{◌≡◌, ℕ, ◌+◌, ◌*◌, ◌/◌, ◌%◌, ◌<◌, ◌≤◌, List, [], ◌∷◌, length, get_or, drop, ℤ, Some, None, Option, sym, refl, ap, ◌∙◌, arith, w64, SFits, to_z, of_z}
+use Rattle.std.proofs.Common.{◌≡◌, ℕ, ◌+◌, ◌*◌, ◌<◌, ◌≤◌, List, [], ◌∷◌, length, get_or, drop, ℤ, Some, None, Option, sym, refl, ap, ◌∙◌, arith, w64, SFits, to_z, of_z}
 use mir.ValLaws.{of_z_fits}
+use Rattle.std.specs.Int.{from_be_bytes}
 use Rattle.std.specs.List.{AllByRecursion}
 use Rattle.std.proofs.lemmas.Int.{to_z-of_z}
+use Rattle.std.proofs.lemmas.Nat.{from_be_bytes-to_be_bytes_8}
 use Rattle.board.specs.Layers.{code}
 use Rattle.board.specs.declared.Layer.{Layer}
 use Rattle.board.specs.declared.Layer.TheVariants.{Frame, Book, Sheet}
@@ -10,35 +12,17 @@ use Rattle.board.specs.declared.Refusal.{Refusal}
 use Rattle.hexadecimal.specs.Hex.{hexed, WellFormed}
 use Rattle.hexadecimal.proofs.Digits.{digits_hexed, length-hexed}
 use Rattle.frames.proofs.Inverse.{same_hexed}
-use Rattle.answers.specs.Heard.{Decodes, ReadAs, Reads, heard}
+use Rattle.answers.specs.Heard.{Decodes, ReadAs, heard}
 use Rattle.answers.specs.Spelling.{Reply, done, timing, refused, wide, words, answer_bytes, spelled, Fits, Spells}
 use Rattle.answers.specs.declared.kinds.Reading.{Reading}
 
--- the number in eight bytes
-eight : ℕ → ℕ → ℕ → ℕ → ℕ → ℕ → ℕ → ℕ → ℕ
-eight a b c d e f g h =
-    a * 72057594037927936 + b * 281474976710656 + c * 1099511627776 + d * 4294967296 + e * 16777216 + f * 65536 + g * 256 + h
-
-joined_bytes : (n n1 n2 n3 n4 n5 n6 a b c d e f g h : ℕ) →
-    n ≡ n1 * 256 + h → n1 ≡ n2 * 256 + g → n2 ≡ n3 * 256 + f → n3 ≡ n4 * 256 + e → n4 ≡ n5 * 256 + d → n5 ≡ n6 * 256 + c → n6 ≡ a * 256 + b →
-    eight a b c d e f g h ≡ n
-unfolding eight
-joined_bytes n n1 n2 n3 n4 n5 n6 a b c d e f g h e0 e1 e2 e3 e4 e5 e6 = omega arith
-
-eight_bytes : (n : ℕ) → n < 18446744073709551616 →
-    eight (n / 72057594037927936 % 256) (n / 281474976710656 % 256) (n / 1099511627776 % 256) (n / 4294967296 % 256)
-    (n / 16777216 % 256) (n / 65536 % 256) (n / 256 % 256) (n % 256)
-    ≡ n
-eight_bytes n small =
-    joined_bytes n (n / 256) (n / 65536) (n / 16777216) (n / 4294967296) (n / 1099511627776) (n / 281474976710656) _ _ _ _ _ _ _ _
-    (omega arith) (omega arith) (omega arith) (omega arith) (omega arith) (omega arith) (omega arith)
-
+-- the number with its sign in eight bytes
 unwide : List ℕ → ℤ
-unwide bs = to_z w64 (eight (get_or bs 0 0) (get_or bs 1 0) (get_or bs 2 0) (get_or bs 3 0) (get_or bs 4 0) (get_or bs 5 0) (get_or bs 6 0) (get_or bs 7 0))
+unwide bs = to_z w64 (from_be_bytes w64 bs)
 
 unwide_wide : (z : ℤ) (rest : List ℕ) → SFits w64 z → unwide (wide z rest) ≡ z
 unfolding unwide
-unwide_wide z rest fits = ap (to_z w64) (eight_bytes (of_z w64 z) (of_z_fits w64 z fits).fits) ∙ to_z-of_z w64 z fits
+unwide_wide z rest fits = ap (to_z w64) (from_be_bytes-to_be_bytes_8 (of_z w64 z) (of_z_fits w64 z fits).fits) ∙ to_z-of_z w64 z fits
 
 same_wide : (y z : ℤ) (s t : List ℕ) → SFits w64 y → SFits w64 z → wide y s ≡ wide z t → (y ≡ z) × (s ≡ t)
 same_wide y z s t fits-y fits-z e = (sym (unwide_wide y s fits-y) ∙ ap unwide e ∙ unwide_wide z t fits-z, ap (drop 8) e)
@@ -145,11 +129,10 @@ well_formed reply fits =
     let least = some reply in
     record { some = omega arith; short = omega arith; even = omega arith; digits = digits_hexed (answer_bytes reply) (small_bytes reply fits) }
 
--- how a line is read, from how its bytes are
+-- a line is read as the answer that it spells, if its bytes are
 pub read_bytes : (line bytes before : List ℕ) (r : Option Reading) (after : List ℕ) → line ≡ hexed bytes → Decodes bytes before r after →
-    Reads line before r after × ((reply : Reply) → Spells line reply → ReadAs r after reply)
-read_bytes line bytes before None after is read =
-    (read.0, λ reply spells. read.1 reply spells.fits (same_hexed bytes (answer_bytes reply) (sym is ∙ spells.is)))
-read_bytes line bytes before (Some reading) after is read =
-    let spells : Spells line (heard reading after) = record { is = is ∙ ap hexed read.0; fits = read.1 } in
-    ((spells, read.2), λ reply other. same_reply (heard reading after) reply read.1 other.fits (sym spells.is ∙ other.is))
+    (reply : Reply) → Spells line reply → ReadAs r after reply
+read_bytes line bytes before None after is read reply spells =
+    read.1 reply spells.fits (same_hexed bytes (answer_bytes reply) (sym is ∙ spells.is))
+read_bytes line bytes before (Some reading) after is read reply spells =
+    same_reply (heard reading after) reply read.1 spells.fits (sym (is ∙ ap hexed read.0) ∙ spells.is)

@@ -1,3 +1,2 @@
 mod Apart
 mod Bytes
-mod Places

@@ -1,54 +1,21 @@
 // Reading an answer line.
-ghost use Rattle.std.specs.Prelude.{◌≡◌, ◌+◌, ◌*◌, ◌^◌, ◌<◌, ◌≤◌, ◌∷◌, length, take, drop, MatchOption, ◌≢◌};
-ghost use Rattle.std.specs.List.{AllByRecursion};
-ghost use Rattle.board.specs.Layers.{code};
-ghost use Rattle.board.specs.declared.Layer.{Layer as AnyLayer};
+ghost use Rattle.std.specs.Prelude.{◌≡◌, ◌≤◌, ◌∷◌, ◌++◌, length, map, drop};
+ghost use Rattle.std.specs.Int.{w16, from_be_bytes};
 ghost use Rattle.answers.specs.Heard.{Decodes, ReadAs, Reads};
-ghost use Rattle.answers.specs.Spelling.{Reply, Spells, wide, words};
+ghost use Rattle.answers.specs.Spelling.{Reply, Spells};
 
 use crate::kinds::Reading;
 use board::{Layer, Refusal};
 use hexadecimal::read_hex;
 
-// The layer that has a number.
-fn layer_of(number: u8) -> Option<Layer>
-    ensures { MatchOption result ((l : AnyLayer) → code l ≢ number) (λ l. code l ≡ number) }
+// Reads minutes, two bytes each, into the start of a place.
+// By index: in a `zip` with `iter_mut` a proof knows no more of the place than its length.
+fn take_minutes(pairs: &[[u8; 2]], minutes: &mut [u16; 64])
+    requires { length pairs.now ≤ 64 }
+    ensures { minutes.new ≡ map (from_be_bytes w16) pairs.now ++ drop (length pairs.now) minutes.old }
 {
-    match number {
-        1 => Some(Layer::Frame),
-        2 => Some(Layer::Book),
-        3 => Some(Layer::Sheet),
-        _ => None,
-    }
-}
-
-// The number with its sign in the eight bytes from `at` on.
-fn wide_at(bytes: &[u8], at: usize) -> i64
-    requires { at + 8 ≤ length bytes.now }
-    ensures { drop at bytes.now ≡ wide result (drop (at + 8) bytes.now) }
-{
-    i64::from_be_bytes([
-        bytes[at],
-        bytes[at + 1],
-        bytes[at + 2],
-        bytes[at + 3],
-        bytes[at + 4],
-        bytes[at + 5],
-        bytes[at + 6],
-        bytes[at + 7],
-    ])
-}
-
-// Reads the minutes of some legs from the start of the fields into the start of a place.
-fn take_minutes(fields: &[u8], legs: usize, minutes: &mut [u16; 64])
-    requires few { legs ≤ 64 }
-    requires room { 2 * legs ≤ length fields.now }
-    ensures read { fields.now ≡ words (take legs minutes.new) (drop (2 * legs) fields.now) }
-    ensures fits { AllByRecursion (λ m. m < 2 ^ 16) (take legs minutes.new) }
-    ensures same { drop legs minutes.new ≡ drop legs minutes.old }
-{
-    for i in 0..legs {
-        minutes[i] = u16::from_be_bytes([fields[2 * i], fields[2 * i + 1]]);
+    for (i, pair) in pairs.iter().enumerate() {
+        minutes[i] = u16::from_be_bytes(*pair);
     }
 }
 
@@ -56,15 +23,16 @@ fn take_minutes(fields: &[u8], legs: usize, minutes: &mut [u16; 64])
 fn decode_timing(legs: u8, fields: &[u8], minutes: &mut [u16; 64]) -> Option<Reading>
     ensures { Decodes (0x81 ∷ legs ∷ fields.now) minutes.old result minutes.new }
 {
-    let count = legs as usize;
-    if count > 64 || fields.len() != 2 * count + 16 {
+    let (fields, cents) = fields.split_last_chunk::<8>()?;
+    let (flown, kilograms) = fields.split_last_chunk::<8>()?;
+    if legs > 64 || flown.len() != 2 * usize::from(legs) {
         return None;
     }
-    take_minutes(fields, count, minutes);
+    take_minutes(flown.as_chunks().0, minutes);
     Some(Reading::Timing {
         legs,
-        kilograms: wide_at(fields, 2 * count),
-        cents: wide_at(fields, 2 * count + 8),
+        kilograms: i64::from_be_bytes(*kilograms),
+        cents: i64::from_be_bytes(*cents),
     })
 }
 
@@ -76,13 +44,13 @@ fn decode(bytes: &[u8], minutes: &mut [u16; 64]) -> Option<Reading>
         [0x80] => Some(Reading::Done),
         [0x81, legs, fields @ ..] => decode_timing(*legs, fields, minutes),
         [0xEE, number, layer, leg, high, low] => {
-            let layer = layer_of(*layer)?;
+            let refusal = Refusal {
+                number: *number,
+                layer: Layer::try_from(*layer).ok()?,
+                leg: *leg,
+            };
             Some(Reading::Refused {
-                refusal: Refusal {
-                    number: *number,
-                    layer,
-                    leg: *leg,
-                },
+                refusal,
                 line: u16::from_be_bytes([*high, *low]),
             })
         }
@@ -99,9 +67,7 @@ impl Reading {
         ensures only { (reply : Reply) → Spells line.now reply → ReadAs result minutes.new reply }
     {
         let mut place = [0; 146];
-        let Some(count) = read_hex(line, &mut place) else {
-            return None;
-        };
-        decode(&place[0..count], minutes)
+        let count = read_hex(line, &mut place)?;
+        decode(&place[..count], minutes)
     }
 }

@@ -1,4 +1,5 @@
 // Examples at the edges of the books' ranges.
+use board::{Layer, Refusal, UnknownLayer};
 use books::{Book, BookFault, Ends, FormulaBook, FormulaLeg};
 use charges::ChargeBook;
 use joins::JoinedBook;
@@ -7,11 +8,9 @@ use std::test::Fail;
 // A leg that costs nothing, of the given ends.
 fn free(lo: u16, hi: u16) -> FormulaLeg {
     FormulaLeg {
-        q: 0,
-        t: 0,
-        r: 0,
         lo,
         hi,
+        ..FormulaLeg::default()
     }
 }
 
@@ -20,7 +19,7 @@ fn refused(res: Result<(), BookFault>) -> Result<(u8, u8), Fail> {
     match res {
         Ok(()) => Err(Fail::new("granted")),
         Err(fault) => {
-            let refusal = fault.refusal();
+            let refusal = Refusal::from(fault);
             Ok((refusal.number, refusal.leg))
         }
     }
@@ -142,4 +141,20 @@ fn charges_over_charges(rt: HostRuntime) -> Result<(), Fail> {
         (180, 120)
     );
     Ok(())
+}
+
+#[test]
+fn refusals_in_words(rt: HostRuntime) -> Result<(), Fail> {
+    let full = format!(in rt.alloc(); "{}", Refusal::from(BookFault::TooManyLegs))?;
+    assert_eq!(rt; full.as_str(), "refused 5, leg 65");
+    Ok(())
+}
+
+// Each layer is read back from its number, and no other number is a layer's.
+#[test]
+fn layers_by_number(rt: HostRuntime) {
+    for layer in [Layer::Frame, Layer::Book, Layer::Sheet] {
+        assert_eq!(rt; Layer::try_from(u8::from(layer)), Ok(layer));
+    }
+    assert_eq!(rt; Layer::try_from(4), Err(UnknownLayer(4)));
 }

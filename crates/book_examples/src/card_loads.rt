@@ -14,10 +14,7 @@ fn head(first: u16, count: u16) -> Head {
 // What loading these tells, if it refuses them.
 fn refusal<'a>(heads: &'a [Head], cards: &'a [i64]) -> Option<Refusal> {
     let mut book = CardBook::empty();
-    match load(&mut book, heads, cards) {
-        Ok(()) => None,
-        Err(fault) => Some(fault.refusal()),
-    }
+    load(&mut book, heads, cards).err().map(Refusal::from)
 }
 
 // A row of the book layer.

@@ -68,3 +68,14 @@ fn absent_if_one_place_is(rt: HostRuntime) {
     assert!(rt; edge.checked_add(pair(-1, 1)).is_none());
     assert!(rt; edge.checked_sub(pair(-1, -1)).is_none());
 }
+
+#[test]
+fn printed(rt: HostRuntime) -> Result<(), Fail> {
+    let cents = format!(in rt.alloc(); "{}", Cents::new(-300))?;
+    assert_eq!(rt; cents.as_str(), "-300 cents");
+    let kilograms = format!(in rt.alloc(); "{}", Kilograms::new(12))?;
+    assert_eq!(rt; kilograms.as_str(), "12 kg");
+    let both = format!(in rt.alloc(); "{}", pair(0, 290))?;
+    assert_eq!(rt; both.as_str(), "0 kg then 290 cents");
+    Ok(())
+}

@@ -1,6 +1,6 @@
 -- Formula books: a leg's cost by a formula, what a lawful leg is, and what a list of legs means.
 -- Assumes nothing.
-use Rattle.std.specs.Prelude.{◌≡◌, ℕ, ◌+◌, ◌-◌, ◌^◌, ◌≤◌, List, ℤ, pos, ◌+ℤ◌, ◌-ℤ◌, ◌*ℤ◌, neg_ℤ, ◌≤ℤ◌, slice_index_or}
+use Rattle.std.specs.Prelude.{◌≡◌, ℕ, ◌+◌, ◌-◌, ◌^◌, ◌≤◌, List, length, ℤ, pos, ◌+ℤ◌, ◌-ℤ◌, ◌*ℤ◌, neg_ℤ, ◌≤ℤ◌, slice_index_or}
 use Rattle.amounts.specs.Rows.{single}
 use Rattle.books.specs.Meaning.{Meaning, IsLeg}
 use Rattle.books.specs.declared.formula.FormulaLeg.{FormulaLeg}
@@ -25,10 +25,10 @@ blank = record { q = 0; t = 0; r = pos 0; lo = 0; hi = 0 }
 abbrev pub at : List FormulaLeg → ℕ → FormulaLeg
 at legs i = slice_index_or legs (i - 1) blank
 
--- the book of the first n legs of a list
-abbrev pub formulas : List FormulaLeg → ℕ → Meaning
-formulas legs n =
-    record { legs = n; lo = λ i. (at legs i).lo; hi = λ i. (at legs i).hi; cost = λ i m. single (kilograms (at legs i) m) }
+-- the book of a list of legs
+abbrev pub formulas : List FormulaLeg → Meaning
+formulas legs =
+    record { legs = length legs; lo = λ i. (at legs i).lo; hi = λ i. (at legs i).hi; cost = λ i m. single (kilograms (at legs i) m) }
 
 -- the new book is the old one with one leg more, and every other leg as before
 pub record Appended (old : Meaning) (leg : FormulaLeg) (new : Meaning) : Type 0 where

@@ -19,16 +19,16 @@ pub enum BookFault {
     NoSuchLeg { leg: u8 },
 }
 
-impl BookFault {
-    // The number, layer and leg of the refusal.
-    pub fn refusal(self) -> Refusal
-        ensures { result ≡ told self }
-    {
-        let (number, leg) = match self {
+// The number, layer and leg of the refusal.
+impl From<BookFault> for Refusal {
+    ghost from_gives = { λ fault refusal. refusal ≡ told fault };
+
+    fn from(fault: BookFault) -> Self {
+        let (number, leg) = match fault {
             BookFault::TooManyLegs => (5, 65),
             BookFault::BadLeg { leg } => (6, leg),
             BookFault::OutOfRange { leg } => (7, leg),
-            BookFault::FallingStep { leg, minute: _ } => (8, leg),
+            BookFault::FallingStep { leg, .. } => (8, leg),
             BookFault::NoSuchLeg { leg } => (11, leg),
         };
         Refusal {

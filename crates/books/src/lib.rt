@@ -1,7 +1,7 @@
 // Cost books: the interface, and the books of the engine.
 #![tactic(auto)]
 
-ghost use Rattle.std.specs.Prelude.{◌≡◌, MatchOption};
+ghost use Rattle.std.specs.Prelude.{◌≡◌, ◌<◌, ◌≤◌, ◌⊎◌, MatchBool, MatchOption};
 ghost use Rattle.books.specs.Meaning.{Meaning, IsLeg, Priced, Shaped, Ranged, Convex};
 
 use amounts::Amount;
@@ -23,6 +23,15 @@ pub const LAST_MINUTE: u16 = 4095;
 pub struct Ends {
     pub lo: u16,
     pub hi: u16,
+}
+
+impl Ends {
+    // Whether some minutes are at least the fewest and at most the most.
+    pub fn contains(self, minutes: u16) -> bool
+        ensures { MatchBool result ((self.lo ≤ minutes) × (minutes ≤ self.hi)) ((minutes < self.lo) ⊎ (self.hi < minutes)) }
+    {
+        (self.lo..=self.hi).contains(&minutes)
+    }
 }
 
 // A book: for each leg its two ends, and the cost of each minute between them.

@@ -22,10 +22,6 @@ module _ (heads : List Head) (cards : List ℤ) (clear : Clear (shape_rules head
   pub length_costs : length (costs_of heads cards i) ≡ (head heads i).count
   length_costs = let h = covered in simp (length-take, length-drop) (omega arith)
 
-  -- a minute between its ends is one of the day
-  pub in_time : (xs : List ℤ) → xs ≡ costs_of heads cards i → (j : ℕ) → j + 2 < length xs → (head heads i).first + j + 1 < 4095
-  in_time xs e j h = omega (arith, timely, length_costs, ap length e)
-
   -- minutes between its ends have a cost
   pub within : (xs : List ℤ) → xs ≡ costs_of heads cards i → (h : Head) → h ≡ head heads i → (m : ℕ) → h.first ≤ m → m ≤ last_minute_of h → m - h.first < length xs
   within xs e h p m from to = omega (arith, filled, length_costs, ap length e, ap (λ x. x.count) p)

@@ -1,2 +1,3 @@
 mod Legs
 mod Laws
+mod First

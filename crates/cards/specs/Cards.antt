@@ -41,9 +41,21 @@ book_of heads cards = record {
 abbrev pub Leg : List Head → ℕ → Type 0
 Leg heads i = (1 ≤ i) × (i ≤ length heads)
 
--- leg i has no cost at all, goes past minute 4,095, or lacks cards
+-- no leg is so
+abbrev pub NoneIs : (ℕ → Type 0) → Type 0
+NoneIs is = (i : ℕ) → is i → ⊥
+
+-- i is so, and none below it is
+abbrev pub Lowest : (ℕ → Type 0) → ℕ → Type 0
+Lowest is i = is i × ((j : ℕ) → j < i → is j → ⊥)
+
+-- the head of leg i has no cost at all, goes past minute 4,095, or lacks cards
+abbrev pub BadHead : List Head → List ℤ → ℕ → Type 0
+BadHead heads cards i = ((head heads i).count ≡ 0) ⊎ (4095 < last_minute_of (head heads i)) ⊎ (length cards < offset heads i + (head heads i).count)
+
+-- leg i has such a head
 abbrev pub Malformed : List Head → List ℤ → ℕ → Type 0
-Malformed heads cards i = Leg heads i × (((head heads i).count ≡ 0) ⊎ (4095 < last_minute_of (head heads i)) ⊎ (length cards < offset heads i + (head heads i).count))
+Malformed heads cards i = Leg heads i × BadHead heads cards i
 
 -- there are more cards than the legs count
 abbrev pub LeftOver : List Head → List ℤ → Type 0

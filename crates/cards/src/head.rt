@@ -1,7 +1,6 @@
-// The heads of legs, and where the cards of a leg stand.
-ghost use Rattle.std.specs.Prelude.{◌≡◌, ◌+◌, ◌*◌, ◌≤◌, length};
-ghost use Rattle.board.specs.Rules.{Clear};
-ghost use Rattle.cards.specs.Cards.{Leg, last_minute_of, offset, costs_of, shape_rules};
+// The heads of legs.
+ghost use Rattle.std.specs.Prelude.{◌≡◌};
+ghost use Rattle.cards.specs.Cards.{last_minute_of};
 
 // A leg's first minute, and how many costs it has: one for each minute from the first on.
 #[derive(Clone, Copy, PartialEq, Eq, Debug)]
@@ -15,29 +14,6 @@ impl Head {
     pub(crate) fn last_minute(self) -> usize
         ensures { result ≡ last_minute_of self }
     {
-        (self.first as usize + self.count as usize).saturating_sub(1)
+        (usize::from(self.first) + usize::from(self.count)).saturating_sub(1)
     }
-}
-
-// How many cards stand before those of a leg, or in all where it is one past the last.
-pub(crate) fn cards_before(heads: &[Head], leg: usize) -> usize
-    requires { (length heads.now ≤ 64) × ((1 ≤ leg) × (leg ≤ length heads.now + 1)) }
-    ensures sum { result ≡ offset heads.now leg }
-    ensures few { result ≤ 64 * 65535 }
-{
-    let mut sum = 0usize;
-    for head in &heads[0..leg - 1] {
-        sum += head.count as usize;
-    }
-    sum
-}
-
-// The costs of a leg: its own part of the cards.
-pub(crate) fn leg_costs<'a>(heads: &[Head], cards: &'a [i64], leg: usize) -> &'a [i64]
-    requires { (Clear (shape_rules heads.now cards.now)) × (Leg heads.now leg) }
-    ensures { result.now ≡ costs_of heads.now cards.now leg }
-{
-    let start = cards_before(heads, leg);
-    let count = heads[leg - 1].count as usize;
-    &cards[start..start + count]
 }

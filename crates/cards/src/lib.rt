@@ -3,6 +3,7 @@
 
 mod book;
 mod checks;
+mod deck;
 mod head;
 
 pub use book::{CardBook, load};

@@ -1,14 +1,14 @@
 -- Rates, and the laws of a charge book.
-use Rattle.std.proofs.Common.{◌≡◌, ℕ, ◌+◌, ◌-◌, ◌*◌, ◌^◌, ◌<◌, ◌≤◌, ◌≢◌, List, length, get_or, set, replicate, ℤ, pos, ap, ◌∙◌, inl, inr, mul-le-mul, arith, get_or-set_other, get_or-set_same}
+use Rattle.std.proofs.Common.{◌≡◌, ℕ, ◌+◌, ◌-◌, ◌*◌, ◌^◌, ◌≤◌, List, get_or, replicate, ℤ, pos, ap, ◌∙◌, inl, inr, mul-le-mul, arith}
 use lib.ListN.{get_or-replicate, get_or-eq_default}
 use Rattle.std.proofs.lemmas.Int.{ints}
-use Rattle.std.proofs.lemmas.Bool.{cases_lt, cases_eq}
+use Rattle.std.proofs.lemmas.Bool.{cases_lt}
 use Rattle.amounts.specs.Rows.{Row, single, minus, nearest}
 use Rattle.amounts.specs.Orders.{Order, ByNumber, ByRank}
 use Rattle.amounts.specs.Singles.{nearest_same, single-within, single_ends}
 use Rattle.amounts.specs.JoinedRows.{joined-within, joined_ends, minus-joined, to_ranked}
 use Rattle.books.specs.Meaning.{Meaning, Shaped, Ranged, Convex, step}
-use Rattle.charges.specs.Charges.{rate, charged, RateSet}
+use Rattle.charges.specs.Charges.{rate, charged}
 
 -- ---- the list of rates
 
@@ -19,25 +19,12 @@ all_zero k =
       | inr h ↦ get_or-eq_default (replicate 64 0) 0 h
     ]
 
-pub rate-set : (rates : List ℕ) (leg value : ℕ) → 1 ≤ leg → leg - 1 < length rates → RateSet rates leg value (set rates (leg - 1) value)
-rate-set rates leg value first h =
-    record {
-      changed = rw get_or-set_same;
-      kept = λ i p other. let ne : i - 1 ≢ leg - 1 = λ e. other (omega arith) in rw get_or-set_other;
-    }
-
-pub set_small : (rates : List ℕ) → ((k : ℕ) → get_or rates k 0 ≤ 65535) → (i value : ℕ) → i < length rates → value ≤ 65535 → (k : ℕ) → get_or (set rates i value) k 0 ≤ 65535
-set_small rates small i value within h k =
-    elim (cases_eq k i) [
-      | inl same ↦ rw (same, get_or-set_same) h
-      | inr other ↦ rw get_or-set_other (small k)
-    ]
-
 -- ---- the laws
 
 charge_small : (r m : ℕ) → r ≤ 65535 → m ≤ 65535 → r * m ≤ 2 ^ 40
 charge_small r m p q = let h : r * m ≤ 65535 * 65535 = mul-le-mul p q in omega arith
 
+-- what an amount made of a charge means is the charge itself
 pub charge_paid : (r m : ℕ) (v : ℤ) → r ≤ 65535 → m ≤ 65535 → v ≡ nearest (pos (r * m)) → single (nearest v) ≡ single (pos (r * m))
 charge_paid r m v p q e =
     let h = charge_small r m p q in

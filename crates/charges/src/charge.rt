@@ -1,5 +1,5 @@
 // Charge books: rates in cents a minute over any book.
-ghost use Rattle.std.specs.Prelude.{◌≡◌, ℕ, ◌*◌, ◌≤◌, pos, MatchResult, slice_index};
+ghost use Rattle.std.specs.Prelude.{◌≡◌, ℕ, ◌*◌, ◌≤◌, pos, MatchResult, length, slice_index};
 ghost use Rattle.amounts.specs.Rows.{single, nearest};
 ghost use Rattle.board.specs.Rules.{Clear, Broken};
 ghost use Rattle.books.specs.Faults.{told};
@@ -13,7 +13,7 @@ use books::{Book, BookFault, Ends, FormulaBook, FormulaLeg, MOST_LEGS};
 // A rate in cents a minute for each of 64 legs.
 #[derive(Clone, Copy)]
 struct Rates {
-    values: [u16; 64],
+    values: [u16; MOST_LEGS],
     ghost small: { (k : ℕ) → slice_index values k ≤ 65535 },
 }
 
@@ -22,17 +22,19 @@ impl Rates {
     fn new() -> Self
         ensures { (i : ℕ) → rate result.values i ≡ 0 }
     {
-        Rates { values: [0; 64] }
+        Rates {
+            values: [0; MOST_LEGS],
+        }
     }
 
     // Sets the rate of one leg, or refuses it and leaves the rates as they stood.
     fn set(&mut self, leg: u8, value: u16) -> Result<(), BookFault>
         ensures { MatchResult result (λ _. Clear (rate_rules leg) × RateSet self.old.values leg value self.new.values) (λ f. Broken (rate_rules leg) (told f) × (self.new ≡ self.old)) }
     {
-        if leg == 0 || leg as usize > MOST_LEGS {
+        if !(1..=MOST_LEGS).contains(&usize::from(leg)) {
             return Err(BookFault::NoSuchLeg { leg });
         }
-        self.values[leg as usize - 1] = value;
+        self.values[usize::from(leg) - 1] = value;
         Ok(())
     }
 
@@ -84,7 +86,7 @@ impl ChargeBook<FormulaBook> {
     // Adds a leg to the formula book below, or refuses it and leaves the book as it stood; the rates stay.
     pub fn add_leg(&mut self, leg: FormulaLeg) -> Result<(), BookFault>
         ensures rates { self.new.rates ≡ self.old.rates }
-        ensures legs { MatchResult result (λ _. Clear (leg_rules self.old.below.count leg) × Appended (formulas self.old.below.legs self.old.below.count) leg (formulas self.new.below.legs self.new.below.count)) (λ f. Broken (leg_rules self.old.below.count leg) (told f) × (self.new ≡ self.old)) }
+        ensures legs { MatchResult result (λ _. Clear (leg_rules (length self.old.below.legs.items) leg) × Appended (formulas self.old.below.legs.items) leg (formulas self.new.below.legs.items)) (λ f. Broken (leg_rules (length self.old.below.legs.items) leg) (told f) × (self.new ≡ self.old)) }
     {
         self.below.add_leg(leg)
     }

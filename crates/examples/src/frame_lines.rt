@@ -1,7 +1,8 @@
 // Examples of frames and of lines.
 use frames::calls::Call;
 use frames::faults::FrameFault;
-use lines::Lines;
+use lines::{LIMIT, Lines, read_start};
+use std::io::repeat;
 
 #[test]
 fn reads(rt: HostRuntime) {
@@ -41,4 +42,12 @@ fn splits(rt: HostRuntime) {
     assert!(rt; lines.next() == Some(b""));
     assert!(rt; lines.next() == Some(b"0401"));
     assert!(rt; lines.next() == None);
+}
+
+#[test]
+fn reads_the_first_characters(rt: HostRuntime) {
+    let short = read_start(rt.alloc(), b"06\n0401".as_slice());
+    assert!(rt; short.is_ok_and(|text| text.as_slice() == b"06\n0401".as_slice()));
+    let long = read_start(rt.alloc(), repeat(b'0'));
+    assert!(rt; long.is_ok_and(|text| text.len() == LIMIT));
 }

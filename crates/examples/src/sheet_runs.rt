@@ -2,17 +2,17 @@
 use amounts::Kilograms;
 use board::Refusal;
 use books::{FormulaBook, FormulaLeg};
-use register::{Call, SheetFault};
+use register::{Areas, Call, SheetFault};
 use sheet::{Asked, run};
 use std::test::Fail;
 
 // A call that is handed areas long enough for three legs and a total of 174 minutes.
 fn asked(call: Call) -> Asked {
-    Asked {
-        call,
+    let areas = Areas {
         minutes: 525,
         amounts: 350,
-    }
+    };
+    Asked { call, areas }
 }
 
 // The kilograms of a granted call; absent for a close.
@@ -22,11 +22,7 @@ fn kilograms(answer: Option<Kilograms>) -> Option<i64> {
 
 // The row and the leg that a refusal tells.
 fn told(fault: SheetFault) -> (u8, u8) {
-    let Refusal {
-        number,
-        layer: _,
-        leg,
-    } = fault.refusal();
+    let Refusal { number, leg, .. } = fault.into();
     (number, leg)
 }
 

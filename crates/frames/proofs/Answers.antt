@@ -1,5 +1,5 @@
 -- Lemmas on the answer to a line: which one it is, and that there is no other.
-use Rattle.std.proofs.Common.{◌≡◌, ℕ, ◌*◌, ◌<◌, ◌≤◌, List, length, Ok, Err, Result, sym, refl, ap, ◌∙◌, subst, inl, inr, arith}
+use Rattle.std.proofs.Common.{◌≡◌, ℕ, ◌*◌, ◌<◌, ◌≤◌, cond, ◌==◌, List, length, Ok, Err, Result, sym, refl, ap, ◌∙◌, subst, inl, inr, arith}
 use Rattle.std.specs.List.{AllByRecursion}
 use Rattle.std.proofs.lemmas.Bool.{cases_order}
 use Rattle.frames.specs.Faults.{told}
@@ -100,23 +100,19 @@ clash line c WrongLength spells (bytes, spelled, misfits) =
     fitting c (subst Misfits (same_hexed bytes (frame_of c) (sym spelled ∙ spells.is)) misfits)
 clash line c TooLate spells applies = applies
 
+-- the refusal with a number
+numbered : ℕ → FrameFault
+numbered n = cond (n == 1) Malformed (cond (n == 2) UnknownKind (cond (n == 3) WrongLength TooLate))
+
+number_is : (f : FrameFault) → numbered (told f).number ≡ f
+unfolding numbered
+number_is Malformed = refl
+number_is UnknownKind = refl
+number_is WrongLength = refl
+number_is TooLate = refl
+
 same_number : (f g : FrameFault) → (told f).number ≡ (told g).number → f ≡ g
-same_number Malformed Malformed e = refl
-same_number Malformed UnknownKind e = absurd (omega arith)
-same_number Malformed WrongLength e = absurd (omega arith)
-same_number Malformed TooLate e = absurd (omega arith)
-same_number UnknownKind Malformed e = absurd (omega arith)
-same_number UnknownKind UnknownKind e = refl
-same_number UnknownKind WrongLength e = absurd (omega arith)
-same_number UnknownKind TooLate e = absurd (omega arith)
-same_number WrongLength Malformed e = absurd (omega arith)
-same_number WrongLength UnknownKind e = absurd (omega arith)
-same_number WrongLength WrongLength e = refl
-same_number WrongLength TooLate e = absurd (omega arith)
-same_number TooLate Malformed e = absurd (omega arith)
-same_number TooLate UnknownKind e = absurd (omega arith)
-same_number TooLate WrongLength e = absurd (omega arith)
-same_number TooLate TooLate e = refl
+same_number f g e = sym (number_is f) ∙ ap numbered e ∙ number_is g
 
 pub answer_only : (line : List ℕ) (r s : Result Call FrameFault) → Answer line r → Answer line s → s ≡ r
 answer_only line (Ok c) (Ok d) one other =

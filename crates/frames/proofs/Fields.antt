@@ -30,31 +30,7 @@ module _ (bs : List ℕ) (typed : (k : ℕ) → Fits w8 (get_or bs k 0)) where
       (byte_at (i + 1 + 1) (of_z w32 z / 256 % 256) (omega arith) (omega arith)
       (byte_at (i + 1 + 1 + 1) (of_z w32 z % 256) room (omega arith) then)))
 
-  -- the shapes of the frames: a kind with no fields, a byte, a word, a byte and a word, a byte and two words, a formula
-  pub bare_frame : (k : ℕ) → length bs ≡ 1 → get_or bs 0 0 ≡ k → bs ≡ k ∷ []
-  bare_frame k size kind = byte_at 0 k (omega arith) kind (drop_all 1 bs (omega arith))
-
-  pub byte_frame : (k b : ℕ) → length bs ≡ 2 → get_or bs 0 0 ≡ k → get_or bs 1 0 ≡ b → bs ≡ k ∷ b ∷ []
-  byte_frame k b size kind is =
-      byte_at 0 k (omega arith) kind (byte_at 1 b (omega arith) is (drop_all 2 bs (omega arith)))
-
-  pub word_frame : (k n : ℕ) → length bs ≡ 3 → get_or bs 0 0 ≡ k → n ≡ get_or bs 1 0 * 256 + get_or bs 2 0 → bs ≡ k ∷ word n []
-  word_frame k n size kind is =
-      byte_at 0 k (omega arith) kind (word_at 1 n (omega arith) is (drop_all 3 bs (omega arith)))
-
-  pub rate_frame : (k b n : ℕ) → length bs ≡ 4 → get_or bs 0 0 ≡ k → get_or bs 1 0 ≡ b → n ≡ get_or bs 2 0 * 256 + get_or bs 3 0 →
-      bs ≡ k ∷ b ∷ word n []
-  rate_frame k b n size kind at is =
-      byte_at 0 k (omega arith) kind
-      (byte_at 1 b (omega arith) at (word_at 2 n (omega arith) is (drop_all 4 bs (omega arith))))
-
-  pub span_frame : (k b m n : ℕ) → length bs ≡ 6 → get_or bs 0 0 ≡ k → get_or bs 1 0 ≡ b →
-      m ≡ get_or bs 2 0 * 256 + get_or bs 3 0 → n ≡ get_or bs 4 0 * 256 + get_or bs 5 0 → bs ≡ k ∷ b ∷ word m (word n [])
-  span_frame k b m n size kind at low high =
-      byte_at 0 k (omega arith) kind
-      (byte_at 1 b (omega arith) at
-      (word_at 2 m (omega arith) low (word_at 4 n (omega arith) high (drop_all 6 bs (omega arith)))))
-
+  -- the frame of a formula
   pub formula_frame : (k q t : ℕ) (r : ℤ) (lo hi : ℕ) → length bs ≡ 13 → get_or bs 0 0 ≡ k →
       q ≡ get_or bs 1 0 * 256 + get_or bs 2 0 → t ≡ get_or bs 3 0 * 256 + get_or bs 4 0 →
       r ≡ to_z w32 (get_or bs 5 0 * 16777216 + get_or bs 6 0 * 65536 + get_or bs 7 0 * 256 + get_or bs 8 0) →

@@ -18,12 +18,12 @@ pub enum FrameFault {
     TooLate,
 }
 
-impl FrameFault {
-    // The number, layer and leg of the refusal.
-    pub fn refusal(self) -> Refusal
-        ensures { result ≡ told self }
-    {
-        let number = match self {
+// The number, layer and leg of the refusal.
+impl From<FrameFault> for Refusal {
+    ghost from_gives = { λ fault refusal. refusal ≡ told fault };
+
+    fn from(fault: FrameFault) -> Refusal {
+        let number = match fault {
             FrameFault::Malformed => 1,
             FrameFault::UnknownKind => 2,
             FrameFault::WrongLength => 3,

@@ -12,44 +12,37 @@ use hexadecimal::read_hex;
 fn decode(bytes: &[u8]) -> Result<Call, FrameFault>
     ensures { Decoded bytes.now result }
 {
-    match bytes {
+    match *bytes {
         [0x01, a, b] => Ok(Call::Open {
-            total: u16::from_be_bytes([*a, *b]),
+            total: u16::from_be_bytes([a, b]),
         }),
         [0x02, leg, a, b, c, d] => Ok(Call::Bounds {
-            leg: *leg,
-            low: u16::from_be_bytes([*a, *b]),
-            high: u16::from_be_bytes([*c, *d]),
+            leg,
+            low: u16::from_be_bytes([a, b]),
+            high: u16::from_be_bytes([c, d]),
         }),
         [0x03, stop, a, b, c, d] => Ok(Call::Window {
-            stop: *stop,
-            low: u16::from_be_bytes([*a, *b]),
-            high: u16::from_be_bytes([*c, *d]),
+            stop,
+            low: u16::from_be_bytes([a, b]),
+            high: u16::from_be_bytes([c, d]),
         }),
-        [0x04, stop] => Ok(Call::Lift { stop: *stop }),
+        [0x04, stop] => Ok(Call::Lift { stop }),
         [0x05, a, b] => Ok(Call::Total {
-            total: u16::from_be_bytes([*a, *b]),
+            total: u16::from_be_bytes([a, b]),
         }),
         [0x06] => Ok(Call::Close),
         [0x11, a, b, c, d, e, f, g, h, i, j, k, l] => Ok(Call::AddLeg {
-            q: u16::from_be_bytes([*a, *b]),
-            t: u16::from_be_bytes([*c, *d]),
-            r: i32::from_be_bytes([*e, *f, *g, *h]),
-            lo: u16::from_be_bytes([*i, *j]),
-            hi: u16::from_be_bytes([*k, *l]),
+            q: u16::from_be_bytes([a, b]),
+            t: u16::from_be_bytes([c, d]),
+            r: i32::from_be_bytes([e, f, g, h]),
+            lo: u16::from_be_bytes([i, j]),
+            hi: u16::from_be_bytes([k, l]),
         }),
         [0x12, leg, a, b] => Ok(Call::SetRate {
-            leg: *leg,
-            rate: u16::from_be_bytes([*a, *b]),
+            leg,
+            rate: u16::from_be_bytes([a, b]),
         }),
-        [0x01, ..] => Err(FrameFault::WrongLength),
-        [0x02, ..] => Err(FrameFault::WrongLength),
-        [0x03, ..] => Err(FrameFault::WrongLength),
-        [0x04, ..] => Err(FrameFault::WrongLength),
-        [0x05, ..] => Err(FrameFault::WrongLength),
-        [0x06, ..] => Err(FrameFault::WrongLength),
-        [0x11, ..] => Err(FrameFault::WrongLength),
-        [0x12, ..] => Err(FrameFault::WrongLength),
+        [0x01..=0x06 | 0x11 | 0x12, ..] => Err(FrameFault::WrongLength),
         _ => Err(FrameFault::UnknownKind),
     }
 }
@@ -66,6 +59,6 @@ impl Call {
         let Some(count) = read_hex(line, &mut place) else {
             return Err(FrameFault::Malformed);
         };
-        decode(&place[0..count])
+        decode(&place[..count])
     }
 }

@@ -12,7 +12,7 @@ impl Call {
     {
         let mut place = [0; 64];
         let count = self.write(&mut place);
-        Call::read(&place[0..count])
+        Call::read(&place[..count])
     }
 
     // Reads a line and writes the call back: that line again, and the rest of the place stays. A

@@ -1,8 +1,9 @@
 -- Lemmas on hexadecimal: its length, one byte more, the two characters of one turn of a loop, and that it is digits.
-use Rattle.std.proofs.Common.{◌≡◌, ℕ, zero, suc, ◌+◌, ◌*◌, ◌/◌, ◌%◌, ◌<◌, ◌≤◌, List, [], ◌∷◌, ◌++◌, length, get_or, take, drop, set, sym, refl, ap, ◌∙◌, inl, inr, arith}
+use Rattle.std.proofs.Common.{◌≡◌, ℕ, zero, suc, ◌+◌, ◌*◌, ◌/◌, ◌%◌, ◌<◌, ◌≤◌, List, [], ◌∷◌, ◌++◌, length, get_or, take, drop, set, sym, refl, ap, subst, ◌∙◌, inl, inr, arith}
 use Rattle.std.specs.List.{AllByRecursion}
+use Rattle.std.specs.Simd.{first_chunks}
 use Rattle.std.proofs.lemmas.Bool.{cases_lt, le-ltb, lt-ltb}
-use Rattle.std.proofs.lemmas.List.{append_assoc, drop-drop, drop_more, drop-set-lt, set_at, take_more, take_more_set, length_push, length-take-le}
+use Rattle.std.proofs.lemmas.List.{append_assoc, get_or-take, get_or-drop, drop-drop, drop_more, drop-set-lt, set_at, take_more, take_more_set, length_push, length-take-le}
 use Rattle.hexadecimal.specs.Hex.{digit, Digit, Digits, hexed, Stands}
 
 pub length-hexed : (bs : List ℕ) → length (hexed bs) ≡ 2 * length bs
@@ -55,21 +56,39 @@ written_more bs e p i less room is =
     ∙ ap (λ t. t ++ drop (2 * i + 2) e) (sym (hexed_push (take i bs) x) ∙ ap hexed (sym (take_more bs i 0 less)))
     ∙ ap (λ k. hexed (take (i + 1) bs) ++ drop k e) next
 
--- one turn of reading
-pub read_more : (line p : List ℕ) (i h l : ℕ) → 2 * i + 1 < length line → i < length p →
-    Stands (get_or line (2 * i) 0) h → Stands (get_or line (2 * i + 1) 0) l →
-    take (2 * i) line ≡ hexed (take i p) → take (2 * (i + 1)) line ≡ hexed (take (i + 1) (set p i (16 * h + l)))
-read_more line p i h l room less high low is =
-    let next : 2 * (i + 1) ≡ 2 * i + 2 = omega arith in
-    let top : h ≡ (16 * h + l) / 16 = omega (arith, high.0, low.0) in
-    let rest : l ≡ (16 * h + l) % 16 = omega (arith, high.0, low.0) in
-    ap (λ k. take k line) next
-    ∙ take-two line (2 * i) room
-    ∙ ap (λ t. t ++ get_or line (2 * i) 0 ∷ get_or line (2 * i + 1) 0 ∷ []) is
-    ∙ ap (λ x. hexed (take i p) ++ x ∷ get_or line (2 * i + 1) 0 ∷ []) (high.1 ∙ ap digit top)
-    ∙ ap (λ x. hexed (take i p) ++ digit ((16 * h + l) / 16) ∷ x ∷ []) (low.1 ∙ ap digit rest)
-    ∙ sym (hexed_push (take i p) (16 * h + l))
-    ∙ ap hexed (sym (take_more_set p i (16 * h + l) less))
+-- the characters of a pair
+pub pair_at : (line : List ℕ) (k i j : ℕ) → i < k → j < 2 → get_or (get_or (first_chunks 2 k line) i []) j 0 ≡ get_or line (2 * i + j) 0
+pair_at line zero i j less small = absurd (omega arith)
+pair_at line (suc k) zero j less small = get_or-take 2 line j 0 small ∙ ap (λ n. get_or line n 0) (omega arith)
+pair_at line (suc k) (suc i) j less small =
+    pair_at (drop 2 line) k i j (omega arith) small ∙ get_or-drop 2 line (2 * i + j) 0
+    ∙ ap (λ n. get_or line n 0) (omega arith)
+
+module _ (line : List ℕ) (pairs : List (List ℕ)) (are : pairs ≡ first_chunks 2 (length line / 2) line) (i : ℕ) (less : i < length line / 2) where
+  pair_is : (j : ℕ) → j < 2 → get_or (get_or pairs i []) j 0 ≡ get_or line (2 * i + j) 0
+  pair_is j small = ap (λ ps. get_or (get_or ps i []) j 0) are ∙ pair_at line (length line / 2) i j less small
+
+  pub pair_digit : (j : ℕ) → j < 2 → Digits line → Digit (get_or (get_or pairs i []) j 0)
+  pair_digit j small digits = subst Digit (sym (pair_is j small)) (digits (2 * i + j) (omega arith))
+
+  -- one turn of reading
+  pub read_more : (p : List ℕ) (h l : ℕ) → i < length p →
+      Stands (get_or (get_or pairs i []) 0 0) h → Stands (get_or (get_or pairs i []) 1 0) l →
+      take (2 * i) line ≡ hexed (take i p) → take (2 * (i + 1)) line ≡ hexed (take (i + 1) (set p i (16 * h + l)))
+  read_more p h l inside high low is =
+      let first : get_or line (2 * i) 0 ≡ digit h =
+      ap (λ k. get_or line k 0) (omega arith) ∙ sym (pair_is 0 (omega arith)) ∙ high.1 in
+      let second : get_or line (2 * i + 1) 0 ≡ digit l = sym (pair_is 1 (omega arith)) ∙ low.1 in
+      let top : h ≡ (16 * h + l) / 16 = omega (arith, high.0, low.0) in
+      let rest : l ≡ (16 * h + l) % 16 = omega (arith, high.0, low.0) in
+      let next : 2 * (i + 1) ≡ 2 * i + 2 = omega arith in
+      ap (λ k. take k line) next
+      ∙ take-two line (2 * i) (omega arith)
+      ∙ ap (λ t. t ++ get_or line (2 * i) 0 ∷ get_or line (2 * i + 1) 0 ∷ []) is
+      ∙ ap (λ x. hexed (take i p) ++ x ∷ get_or line (2 * i + 1) 0 ∷ []) (first ∙ ap digit top)
+      ∙ ap (λ x. hexed (take i p) ++ digit ((16 * h + l) / 16) ∷ x ∷ []) (second ∙ ap digit rest)
+      ∙ sym (hexed_push (take i p) (16 * h + l))
+      ∙ ap hexed (sym (take_more_set p i (16 * h + l) inside))
 
 -- what follows stays as it was
 pub rest_more : (p e : List ℕ) (i v : ℕ) → drop i p ≡ drop i e → drop (i + 1) (set p i v) ≡ drop (i + 1) e

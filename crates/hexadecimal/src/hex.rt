@@ -1,5 +1,6 @@
-// Bytes as capital hexadecimal digits, written and read.
-ghost use Rattle.std.specs.Prelude.{◌≡◌, ◌*◌, ◌<◌, ◌≤◌, ◌++◌, length, take, drop, MatchBool};
+// Bytes as capital hexadecimal digits, written and read. The toolchain's library `hex` reads small letters too, and writes into a
+// place in small letters alone, so it is not used.
+ghost use Rattle.std.specs.Prelude.{◌≡◌, ◌*◌, ◌<◌, ◌≤◌, ◌++◌, length, take, drop, MatchBool, MatchOption};
 ghost use Rattle.hexadecimal.specs.Hex.{digit, Digit, Digits, Stands, hexed, Hexes, WellFormed, Puts, Takes};
 
 // The capital digit of a number below 16.
@@ -10,14 +11,14 @@ fn digit_of(n: u8) -> u8
     if n < 10 { b'0' + n } else { b'A' - 10 + n }
 }
 
-// Whether a character is a digit.
-fn is_digit(character: u8) -> bool
-    ensures { MatchBool result (Digit character) (Digit character → ⊥) }
+// The number that a digit stands for, or none, if the character is no digit.
+fn digit_value(character: u8) -> Option<u8>
+    ensures { MatchOption result (Digit character → ⊥) (Stands character) }
 {
     match character {
-        b'0'..=b'9' => true,
-        b'A'..=b'F' => true,
-        _ => false,
+        b'0'..=b'9' => Some(character - b'0'),
+        b'A'..=b'F' => Some(character - b'A' + 10),
+        _ => None,
     }
 }
 
@@ -26,22 +27,15 @@ fn value_of(character: u8) -> u8
     requires { Digit character }
     ensures { Stands character result }
 {
-    match character {
-        b'0'..=b'9' => character - b'0',
-        _ => character - b'A' + 10,
-    }
+    digit_value(character).unwrap()
 }
 
 // Whether a line holds nothing but digits.
 fn all_digits(line: &[u8]) -> bool
     ensures { MatchBool result (Digits line.now) (Digits line.now → ⊥) }
 {
-    for character in line {
-        if !is_digit(*character) {
-            return false;
-        }
-    }
-    true
+    line.iter()
+        .all(|character| digit_value(*character).is_some())
 }
 
 // Writes bytes as hexadecimal at the start of a place that is long enough, and tells how many
@@ -51,6 +45,7 @@ fn put_hex(bytes: &[u8], place: &mut [u8]) -> usize
     ensures count { result ≡ length (hexed bytes.now) }
     ensures after { place.new ≡ hexed bytes.now ++ drop result place.old }
 {
+    // by index into the place: once its parts are lent by `chunks_exact_mut`, a proof knows only its length
     for (i, byte) in bytes.iter().enumerate() {
         place[2 * i] = digit_of(*byte / 16);
         place[2 * i + 1] = digit_of(*byte % 16);
@@ -76,11 +71,12 @@ fn take_hex(line: &[u8], place: &mut [u8]) -> usize
     ensures bytes { Hexes line.now (take result place.new) }
     ensures same { drop result place.new ≡ drop result place.old }
 {
-    let count = line.len() / 2;
-    for i in 0..count {
-        place[i] = 16 * value_of(line[2 * i]) + value_of(line[2 * i + 1]);
+    let (pairs, _) = line.as_chunks::<2>();
+    // by index into the place: once its parts are lent by `iter_mut`, beside the pairs, a proof knows only its length
+    for (i, [high, low]) in pairs.iter().enumerate() {
+        place[i] = 16 * value_of(*high) + value_of(*low);
     }
-    count
+    pairs.len()
 }
 
 // Reads a line of hexadecimal into the start of a place, and tells how many bytes it read; the

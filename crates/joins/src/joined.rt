@@ -1,6 +1,6 @@
 // Joined books: the legs of one book and then those of another of the same kind.
-ghost use Rattle.std.specs.Prelude.{◌≡◌};
-ghost use Rattle.joins.specs.Joins.{followed};
+ghost use Rattle.std.specs.Prelude.{◌≡◌, ◌<◌, ◌≤◌, MatchOption};
+ghost use Rattle.joins.specs.Joins.{followed, Has};
 
 use books::{Book, Ends, MOST_LEGS};
 
@@ -11,6 +11,12 @@ pub struct JoinedBook<L, R> {
     second: R,
 }
 
+// Which of the two books has a leg, and the leg's number there.
+enum Part {
+    First(usize),
+    Second(usize),
+}
+
 impl<L: Book, R: Book<Cost = L::Cost>> JoinedBook<L, R> {
     // The two books, one behind the other.
     pub fn new(first: L, second: R) -> Self
@@ -18,6 +24,20 @@ impl<L: Book, R: Book<Cost = L::Cost>> JoinedBook<L, R> {
         ensures second { result.second ≡ second }
     {
         JoinedBook { first, second }
+    }
+
+    // The part that has a leg; absent exactly if the leg lies past the sixty-fourth.
+    fn part(&self, leg: usize) -> Option<Part>
+        ensures { MatchOption result (64 < leg) (λ p. (leg ≤ 64) × Has (L.meaning self.now.first) leg p) }
+    {
+        let before = self.first.legs();
+        if leg > MOST_LEGS {
+            None
+        } else if leg <= before {
+            Some(Part::First(leg))
+        } else {
+            Some(Part::Second(leg - before))
+        }
     }
 }
 
@@ -38,24 +58,16 @@ impl<L: Book, R: Book<Cost = L::Cost>> Book for JoinedBook<L, R> {
     }
 
     fn ends(&self, leg: usize) -> Option<Ends> {
-        if leg > MOST_LEGS {
-            return None;
+        match self.part(leg)? {
+            Part::First(leg) => self.first.ends(leg),
+            Part::Second(leg) => self.second.ends(leg),
         }
-        let before = self.first.legs();
-        if leg <= before {
-            return self.first.ends(leg);
-        }
-        self.second.ends(leg - before)
     }
 
     fn cost(&self, leg: usize, minutes: u16) -> Option<L::Cost> {
-        if leg > MOST_LEGS {
-            return None;
+        match self.part(leg)? {
+            Part::First(leg) => self.first.cost(leg, minutes),
+            Part::Second(leg) => self.second.cost(leg, minutes),
         }
-        let before = self.first.legs();
-        if leg <= before {
-            return self.first.cost(leg, minutes);
-        }
-        self.second.cost(leg - before, minutes)
     }
 }

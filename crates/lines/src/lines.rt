@@ -1,5 +1,5 @@
 // The lines of a text, handed out one by one as parts of it.
-ghost use Rattle.std.specs.Prelude.{◌≡◌, ℕ, ◌+◌, ◌<◌, ◌≤◌, List, [], ◌∷◌, length, take, drop, ◌≢◌, slice_index};
+ghost use Rattle.std.specs.Prelude.{◌≡◌, ℕ, ◌+◌, ◌≤◌, List, length, take, drop, ◌<◌, ◌≢◌, slice_index};
 ghost use Rattle.lines.specs.Lines.{lines_of, Splits};
 ghost use Rattle.lines.specs.Reader.{to_come, HandsOut};
 ghost use Rattle.std.specs.Iterator.{at_most};
@@ -8,11 +8,7 @@ ghost use Rattle.std.specs.Iterator.{at_most};
 pub fn start_of(text: &[u8], limit: usize) -> &[u8]
     ensures { result.now ≡ take limit text.now }
 {
-    if limit < text.len() {
-        &text[0..limit]
-    } else {
-        text
-    }
+    &text[..text.len().min(limit)]
 }
 
 // What is left of a text whose lines are handed out. A line ends at a line feed or at the end of
@@ -48,19 +44,16 @@ impl<'a> Iterator for Lines<'a> {
         }
         let end = line_end(text);
         self.rest = after(text, end);
-        Some(&text[0..end])
+        Some(&text[..end])
     }
 }
 
-// What follows the character at `end`: nothing, if the text ends there or before.
+// What follows the character at `end`: nothing, if the text ends there.
 fn after(text: &[u8], end: usize) -> &[u8]
+    requires { end ≤ length text.now }
     ensures { result.now ≡ drop (end + 1) text.now }
 {
-    if end < text.len() {
-        &text[end + 1..]
-    } else {
-        &[]
-    }
+    text.get(end + 1..).unwrap_or(&[])
 }
 
 // Where the first line of a text ends: at its first line feed, or at its end.
@@ -69,10 +62,7 @@ fn line_end(text: &[u8]) -> usize
     ensures before { (k : ℕ) → k < result → slice_index text.now k ≢ 10 }
     ensures found { result < length text.now → slice_index text.now result ≡ 10 }
 {
-    for (i, character) in text.iter().enumerate() {
-        if *character == b'\n' {
-            return i;
-        }
-    }
-    text.len()
+    text.iter()
+        .position(|character| *character == b'\n')
+        .unwrap_or(text.len())
 }

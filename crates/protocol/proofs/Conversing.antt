@@ -1,7 +1,7 @@
 -- One line more in a conversation, and its end.
 use Rattle.std.proofs.Common.{◌≡◌, ℕ, ◌+◌, List, [], ◌∷◌, ◌++◌, sym, refl, ap, ◌∙◌, subst, append_assoc, append-nil}
 use Rattle.answers.specs.Spelling.{Reply, spelled, Spells}
-use Rattle.register.specs.Register.{Areas}
+use Rattle.register.specs.declared.areas.Areas.{Areas}
 use Rattle.protocol.specs.Conversation.{Answers, Line}
 use Rattle.protocol.specs.Stages.{Stage}
 

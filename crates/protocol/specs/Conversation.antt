@@ -6,7 +6,7 @@ use Rattle.frames.specs.Faults as frames
 use Rattle.frames.specs.Frames.{Answer}
 use Rattle.frames.specs.declared.calls.Call.{Call}
 use Rattle.frames.specs.declared.faults.FrameFault.{FrameFault}
-use Rattle.register.specs.Register.{Areas}
+use Rattle.register.specs.declared.areas.Areas.{Areas}
 use Rattle.protocol.specs.Requests.{requested}
 use Rattle.protocol.specs.Stages.{Stage, Start, Served}
 

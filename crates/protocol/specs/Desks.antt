@@ -1,45 +1,34 @@
 -- What a desk holds, and what its answers say.
 -- Assumes nothing.
-use Rattle.std.specs.Prelude.{ℕ, take, Some, None, Ok, Err, Option, Result}
+use Rattle.std.specs.Prelude.{ℕ, Some, None, Ok, Err, Option, Result}
 use Rattle.answers.specs.Spelling.{Reply, done, timing, refused}
 use Rattle.board.specs.declared.Refusal.{Refusal}
-use Rattle.books.specs.Formula.{formulas}
 use Rattle.books.specs.Meaning.{Meaning}
-use Rattle.charges.specs.declared.charge.ChargeBook.{ChargeBook}
-use Rattle.books.specs.declared.formula.FormulaBook.{FormulaBook}
 use Rattle.register.specs.Register as register
-use Rattle.register.specs.Register.{blank, Areas, Answered}
-use Rattle.states.specs.States.{reading, Sound}
+use Rattle.register.specs.Register.{blank, Answered}
+use Rattle.register.specs.declared.areas.Areas.{Areas}
+use Rattle.states.specs.States.{reading}
 use Rattle.register.specs.declared.call.Call.{Call}
 use Rattle.states.specs.declared.state.State.{State}
-use Rattle.protocol.specs.Stages.{Stage, writing, timing_on, book, NoDearer, Told}
+use Rattle.protocol.specs.Stages.{Stage, writing, timing_on, legs_of, NoDearer, Told}
 use Rattle.protocol.specs.declared.desk.Desk.{Desk}
 use Rattle.protocol.specs.declared.desk.Desk.TheVariants.{Draft, Timing as OnSheet}
 use Rattle.protocol.specs.declared.timing.Timing.{Timing}
 
--- the formula legs of a charge book
-abbrev pub legs_of : ChargeBook FormulaBook → Meaning
-legs_of b = formulas b.below.legs b.below.count
-
 -- a desk read as a stage
 abbrev pub stage : Desk → Stage
 stage (Draft b) = writing (legs_of b) b.rates.values
-stage (OnSheet s) = timing_on (legs_of s.book) s.book.rates.values (reading s.state)
+stage (OnSheet s) = timing_on (legs_of s.sheet.book) s.sheet.book.rates.values (reading s.sheet.state)
 
 -- the first call for the sheet finishes the book, and finds a blank sheet
 abbrev pub finished : Stage → Stage
 finished (writing legs rates) = timing_on legs rates blank
 finished (timing_on legs rates r) = timing_on legs rates r
 
--- the sheet of a desk, if there is one, is sound for its book
-abbrev pub Sane : Desk → Type 0
-Sane (Draft b) = Unit {0}
-Sane (OnSheet s) = Sound (book (legs_of s.book) s.book.rates.values) NoDearer s.state
-
 -- what the result of a line or a call says, its faults told by `told`: done, a timing, or a refusal with the line's number
 abbrev pub reply : {F : Type 0} → (F → Refusal) → ℕ → Result (Option Timing) F → Reply
 reply told n (Ok None) = done
-reply told n (Ok (Some t)) = timing (take t.legs t.minutes) t.kilograms t.cents
+reply told n (Ok (Some t)) = timing t.minutes.items t.kilograms t.cents
 reply told n (Err fault) = refused (told fault) n
 
 -- what the result of an entry says

@@ -1,4 +1,5 @@
 pub mod Faults
+pub mod Named
 pub mod Requests
 pub mod Stages
 pub mod Desks

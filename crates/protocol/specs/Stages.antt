@@ -8,14 +8,17 @@ use Rattle.board.specs.Rules.{Clear, Broken}
 use Rattle.board.specs.declared.Refusal.{Refusal}
 use Rattle.books.specs.Boards.{leg_rules, rate_rules}
 use Rattle.charges.specs.Charges.{charged, rate, RateSet}
-use Rattle.books.specs.Formula.{Appended}
+use Rattle.books.specs.Formula.{formulas, Appended}
+use Rattle.books.specs.declared.formula.FormulaBook.{FormulaBook}
+use Rattle.charges.specs.declared.charge.ChargeBook.{ChargeBook}
 use Rattle.books.specs.Meaning.{Meaning, IsLeg}
 use Rattle.frames.specs.Faults as frames
 use Rattle.frames.specs.declared.faults.FrameFault.TheVariants.{TooLate}
 use Rattle.optimum.specs.Rotation.{Settings, Cheapest, cost_of_timing}
 use Rattle.states.specs.Costs.{flown}
 use Rattle.register.specs.Register as register
-use Rattle.register.specs.Register.{Register, blank, standing, Areas, Answered}
+use Rattle.register.specs.Register.{Register, blank, standing, Answered}
+use Rattle.register.specs.declared.areas.Areas.{Areas}
 use Rattle.register.specs.declared.call.Call.{Call}
 use Rattle.protocol.specs.declared.request.Entry.{Entry}
 use Rattle.protocol.specs.declared.request.Entry.TheVariants.{Leg, Rate}
@@ -27,6 +30,10 @@ use Rattle.protocol.specs.declared.request.Request.TheVariants.{Write, Time}
 pub data Stage : Type 0 where
   writing : Meaning → List ℕ → Stage
   timing_on : Meaning → List ℕ → Register → Stage
+
+-- the formula legs of a charge book
+abbrev pub legs_of : ChargeBook FormulaBook → Meaning
+legs_of b = formulas b.below.legs.items
 
 -- the book of formula legs under rates: kilograms in the first place, and cents in the second
 abbrev pub book : Meaning → List ℕ → Meaning

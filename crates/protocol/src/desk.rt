@@ -4,26 +4,25 @@ ghost use Rattle.register.specs.Faults as sheets;
 ghost use Rattle.states.specs.States.{lent};
 ghost use Rattle.protocol.specs.Faults.{told};
 ghost use Rattle.protocol.specs.Conversation.{Line};
-ghost use Rattle.protocol.specs.Desks.{stage, Sane, reply, noted, legs_of, finished};
-ghost use Rattle.protocol.specs.Stages.{writing, Start, Entered, Timed};
+ghost use Rattle.protocol.specs.Desks.{stage, reply, noted, finished};
+ghost use Rattle.protocol.specs.Stages.{writing, legs_of, Start, Entered, Timed};
 ghost use Rattle.protocol.specs.declared.desk.Desk.TheVariants.{Timing};
 
 use crate::fault::LineFault;
-use crate::request::{Entry, Request, requested};
-use crate::timed::carry_out;
+use crate::request::{Entry, Request};
+use crate::sound::SoundSheet;
 use crate::timing::Timing as Told;
 use amounts::{Cents, Kilograms, Ranked};
 use books::FormulaBook;
 use charges::ChargeBook;
 use frames::{Call, FrameFault};
 use register::{Call as SheetCall, SheetFault};
-use sheet::Sheet;
 
 // A book that is being written, or a sheet over the finished book. The first call for the sheet ends the writing.
 #[derive(Drop)]
 pub(crate) enum Desk {
     Draft(ChargeBook<FormulaBook>),
-    Timing(Sheet<ChargeBook<FormulaBook>>),
+    Timing(SoundSheet),
 }
 
 // Writes an entry in a book, or refuses it and leaves the book as it stood.
@@ -39,40 +38,28 @@ fn enter(book: &mut ChargeBook<FormulaBook>, entry: Entry) -> Result<(), SheetFa
 impl Desk {
     // A book with no legs and every rate 0.
     pub(crate) fn new() -> Desk
-        ensures start { Start (stage result) }
-        ensures sane { Sane result }
+        ensures { Start (stage result) }
     {
         Desk::Draft(ChargeBook::new(FormulaBook::new()))
     }
 
     // Ends the writing: the sheet over the book, blank if there was none before.
-    fn finish(self) -> Sheet<ChargeBook<FormulaBook>>
-        requires { Sane self }
-        ensures stage { stage (Timing result) ≡ finished (stage self) }
-        ensures sane { Sane (Timing result) }
+    fn finish(self) -> SoundSheet
+        ensures { stage (Timing result) ≡ finished (stage self) }
     {
         match self {
-            Desk::Draft(book) => Sheet::new(book),
+            Desk::Draft(book) => SoundSheet::new(book),
             Desk::Timing(sheet) => sheet,
         }
     }
 
     // Writes an entry in the book, or refuses it and changes nothing; once the book is finished it comes too late.
     fn write(&mut self, entry: Entry) -> Result<(), LineFault>
-        requires { Sane self.old }
-        ensures sane { Sane self.new }
-        ensures entered { (n : ℕ) → Entered (stage self.old) entry (noted told n result) n (stage self.new) }
+        ensures { (n : ℕ) → Entered (stage self.old) entry (noted told n result) n (stage self.new) }
     {
-        match std::mem::replace(self, Desk::new()) {
-            Desk::Draft(mut book) => {
-                let written = enter(&mut book, entry);
-                *self = Desk::Draft(book);
-                Ok(written?)
-            }
-            Desk::Timing(sheet) => {
-                *self = Desk::Timing(sheet);
-                Err(LineFault::Frame(FrameFault::TooLate))
-            }
+        match self {
+            Desk::Draft(book) => Ok(enter(book, entry)?),
+            Desk::Timing(_) => Err(FrameFault::TooLate.into()),
         }
     }
 
@@ -83,12 +70,10 @@ impl Desk {
         minutes: &mut [u16],
         amounts: &mut [Ranked<Kilograms, Cents>],
     ) -> Result<Option<Told>, SheetFault>
-        requires { Sane self.old }
-        ensures sane { Sane self.new }
-        ensures timed { (n : ℕ) → Timed (lent minutes.old amounts.old) (stage self.old) call (reply sheets.told n result) n (stage self.new) }
+        ensures { (n : ℕ) → Timed (lent minutes.old amounts.old) (stage self.old) call (reply sheets.told n result) n (stage self.new) }
     {
         let mut sheet = std::mem::replace(self, Desk::new()).finish();
-        let outcome = carry_out(&mut sheet, call, minutes, amounts);
+        let outcome = sheet.carry_out(call, minutes, amounts);
         *self = Desk::Timing(sheet);
         outcome
     }
@@ -101,12 +86,9 @@ impl Desk {
         minutes: &mut [u16],
         amounts: &mut [Ranked<Kilograms, Cents>],
     ) -> Result<Option<Told>, LineFault>
-        requires { Sane self.old }
-        ensures sane { Sane self.new }
-        ensures line { (n : ℕ) → Line (lent minutes.old amounts.old) (stage self.old) line.now (reply told n result) n (stage self.new) }
+        ensures { (n : ℕ) → Line (lent minutes.old amounts.old) (stage self.old) line.now (reply told n result) n (stage self.new) }
     {
-        let call = Call::read(line)?;
-        match requested(call) {
+        match Call::read(line)?.into() {
             Request::Write(entry) => {
                 self.write(entry)?;
                 Ok(None)

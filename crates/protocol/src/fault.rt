@@ -16,14 +16,14 @@ pub enum LineFault {
     Sheet(SheetFault),
 }
 
-impl LineFault {
-    // The number, layer and leg of the refusal.
-    pub fn refusal(self) -> Refusal
-        ensures { result ≡ told self }
-    {
-        match self {
-            LineFault::Frame(fault) => fault.refusal(),
-            LineFault::Sheet(fault) => fault.refusal(),
+// The number, layer and leg of the refusal.
+impl From<LineFault> for Refusal {
+    ghost from_gives = { λ f r. r ≡ told f };
+
+    fn from(fault: LineFault) -> Refusal {
+        match fault {
+            LineFault::Frame(fault) => fault.into(),
+            LineFault::Sheet(fault) => fault.into(),
         }
     }
 }

@@ -5,6 +5,7 @@ mod desk;
 mod fault;
 mod program;
 mod request;
+mod sound;
 mod text;
 mod timed;
 mod timing;

@@ -1,45 +1,25 @@
 // The work of the program `rotation`: reads a text of calls from standard input and writes its answers to standard output.
 ghost use Rattle.std.specs.Prelude.{◌≡◌, IfOk, vec_len};
 
-use crate::text::{LIMIT, answer_text};
-use amounts::{Cents, Kilograms, Ranked};
-use anyhow::anyhow;
+use crate::text::answer_text;
+use amounts::{Amount, Cents, Kilograms, Ranked};
+use lines::read_start;
 use std::alloc::{AllocError, Global};
-use std::io::{Read, Write};
+use std::io::Write;
 
-// The minute numbers that are lent to the sheet.
-fn minute_area(heap: Global) -> Result<Vec<u16>, AllocError>
-    ensures { IfOk result (λ v. vec_len v ≡ 24000) }
+// The minute numbers and the amounts that are lent to the sheet.
+fn areas(heap: Global) -> Result<(Vec<u16>, Vec<Ranked<Kilograms, Cents>>), AllocError>
+    ensures { IfOk result (λ areas. (vec_len areas.0 ≡ 24000) × (vec_len areas.1 ≡ 3000)) }
 {
-    let mut area = Vec::new(heap);
-    for _place in 0..24000usize {
-        area.push(0)?;
-    }
-    Ok(area)
-}
-
-// The amounts that are lent to the sheet.
-fn amount_area(heap: Global) -> Result<Vec<Ranked<Kilograms, Cents>>, AllocError>
-    ensures { IfOk result (λ v. vec_len v ≡ 3000) }
-{
-    let mut area = Vec::new(heap);
-    for _place in 0..3000usize {
-        area.push(Ranked {
-            first: Kilograms::new(0),
-            second: Cents::new(0),
-        })?;
-    }
-    Ok(area)
+    let minutes = vec![in heap; 0; 24000]?;
+    let amounts = vec![in heap; Ranked::zero(); 3000]?;
+    Ok((minutes, amounts))
 }
 
 // Answers the first characters of standard input on standard output; what goes wrong is the error that `main` tells.
 pub fn serve(rt: &HostRuntime) -> anyhow::Result<()> {
-    let mut text = Vec::new(rt.alloc());
-    if let Err(error) = rt.stdin().take(LIMIT as u64).read_to_end(&mut text) {
-        return Err(anyhow!(format!(in rt.alloc(); "the input cannot be read: {error}")?));
-    }
-    let mut minutes = minute_area(rt.alloc())?;
-    let mut amounts = amount_area(rt.alloc())?;
+    let text = read_start(rt.alloc(), rt.stdin())?;
+    let (mut minutes, mut amounts) = areas(rt.alloc())?;
     let answers = answer_text(rt.alloc(), text.as_slice(), &mut minutes, &mut amounts)?;
     rt.stdout().write_all(answers.as_slice())?;
     Ok(())

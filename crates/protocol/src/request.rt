@@ -25,23 +25,27 @@ pub(crate) enum Request {
 }
 
 // What a call asks for: kinds 11 and 12 write in the book, and kinds 01 to 06 are for the sheet.
-pub(crate) fn requested(call: Call) -> Request
-    ensures { result ≡ requested call }
-{
-    match call {
-        Call::Open { total } => Request::Time(SheetCall::Open { total }),
-        Call::Bounds { leg, low, high } => Request::Time(SheetCall::Bounds { leg, low, high }),
-        Call::Window { stop, low, high } => Request::Time(SheetCall::Window { stop, low, high }),
-        Call::Lift { stop } => Request::Time(SheetCall::Lift { stop }),
-        Call::Total { total } => Request::Time(SheetCall::Total { total }),
-        Call::Close => Request::Time(SheetCall::Close),
-        Call::AddLeg { q, t, r, lo, hi } => Request::Write(Entry::Leg(FormulaLeg {
-            q,
-            t,
-            r,
-            lo,
-            hi,
-        })),
-        Call::SetRate { leg, rate } => Request::Write(Entry::Rate { leg, rate }),
+impl From<Call> for Request {
+    ghost from_gives = { λ call request. request ≡ requested call };
+
+    fn from(call: Call) -> Request {
+        match call {
+            Call::Open { total } => Request::Time(SheetCall::Open { total }),
+            Call::Bounds { leg, low, high } => Request::Time(SheetCall::Bounds { leg, low, high }),
+            Call::Window { stop, low, high } => {
+                Request::Time(SheetCall::Window { stop, low, high })
+            }
+            Call::Lift { stop } => Request::Time(SheetCall::Lift { stop }),
+            Call::Total { total } => Request::Time(SheetCall::Total { total }),
+            Call::Close => Request::Time(SheetCall::Close),
+            Call::AddLeg { q, t, r, lo, hi } => Request::Write(Entry::Leg(FormulaLeg {
+                q,
+                t,
+                r,
+                lo,
+                hi,
+            })),
+            Call::SetRate { leg, rate } => Request::Write(Entry::Rate { leg, rate }),
+        }
     }
 }

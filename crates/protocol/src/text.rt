@@ -12,11 +12,9 @@ use crate::fault::LineFault;
 use crate::timing::Timing;
 use amounts::{Cents, Kilograms, Ranked};
 use answers::Answer;
-use lines::{Lines, start_of};
+use board::Refusal;
+use lines::{LIMIT, Lines, start_of};
 use std::alloc::{AllocError, Global};
-
-// How many characters of a text are read.
-pub(crate) const LIMIT: usize = 65535;
 
 // The answer that tells the result of the line with this number.
 fn answer_of<'a>(number: u16, outcome: &'a Result<Option<Timing>, LineFault>) -> Answer<'a>
@@ -25,12 +23,12 @@ fn answer_of<'a>(number: u16, outcome: &'a Result<Option<Timing>, LineFault>) ->
     match outcome {
         Ok(None) => Answer::Done,
         Ok(Some(timing)) => Answer::Timing {
-            minutes: &timing.minutes[0..timing.legs.min(64)],
+            minutes: &timing.minutes,
             kilograms: timing.kilograms,
             cents: timing.cents,
         },
         Err(fault) => Answer::Refused {
-            refusal: fault.refusal(),
+            refusal: Refusal::from(*fault),
             line: number,
         },
     }
@@ -48,11 +46,9 @@ pub fn answer_into(
     ensures room { vec_len out.old + 293 * length (lines_of (take 65535 text.now)) ≤ vec_capacity out.old → is_ok result ≡ true }
 {
     let mut desk = Desk::new();
-    let mut number = 0;
-    for line in Lines::new(start_of(text, LIMIT)) {
-        number += 1;
+    for (index, line) in Lines::new(start_of(text, LIMIT)).enumerate() {
         let outcome = desk.answer(line, minutes, amounts);
-        answer_of(number, &outcome).write(out)?;
+        answer_of(index as u16 + 1, &outcome).write(out)?;
     }
     Ok(())
 }

@@ -1,11 +1,10 @@
 // A timing as it is told.
+use arrayvec::ArrayVec;
 
 // The minutes of the legs, leg 1 first, and what they cost in kilograms and cents.
-#[derive(Clone, Copy)]
+#[derive(Drop)]
 pub(crate) struct Timing {
-    // the minutes; those past the last leg are no part of the timing
-    pub(crate) minutes: [u16; 64],
-    pub(crate) legs: usize,
+    pub(crate) minutes: ArrayVec<u16, 64>,
     pub(crate) kilograms: i64,
     pub(crate) cents: i64,
 }

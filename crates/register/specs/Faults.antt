@@ -4,6 +4,8 @@ use Rattle.std.specs.Prelude.{ℕ}
 use Rattle.board.specs.declared.Layer.TheVariants.{Sheet}
 use Rattle.board.specs.declared.Refusal.{Refusal}
 use Rattle.books.specs.Faults as books
+use Rattle.solver.specs.declared.fault.PlanFault.{PlanFault}
+use Rattle.solver.specs.declared.fault.PlanFault.TheVariants.{Stuck, Unlawful}
 use Rattle.register.specs.declared.fault.SheetFault.{SheetFault}
 use Rattle.register.specs.declared.fault.SheetFault.TheVariants.{Standing, Blank, NoSuchLeg, Crossed, TooLarge, OutsideEnds, ShortArea, NoTiming, Book}
 
@@ -22,3 +24,8 @@ told (OutsideEnds leg) = row 14 leg
 told (ShortArea leg) = row 15 leg
 told (NoTiming leg) = row 16 leg
 told (Book fault) = books.told fault
+
+-- a plan without a timing is refused as such, with the first leg at which nothing is left; one that does not fit names no leg
+abbrev pub timeless : PlanFault → SheetFault
+timeless (Stuck leg) = NoTiming leg
+timeless Unlawful = NoTiming 0

@@ -9,6 +9,7 @@ use Rattle.books.specs.Meaning.{Meaning, IsLeg}
 use Rattle.optimum.specs.Rotation.{Settings, put, Stuck, Cheapest, cost_of_timing}
 use Rattle.register.specs.Calls.{named}
 use Rattle.register.specs.Faults.{row}
+use Rattle.register.specs.declared.areas.Areas.{Areas}
 use Rattle.register.specs.declared.call.Call.{Call}
 use Rattle.register.specs.declared.call.Call.TheVariants.{Open, Bounds, Window, Lift, Total, Close}
 
@@ -16,11 +17,6 @@ use Rattle.register.specs.declared.call.Call.TheVariants.{Open, Bounds, Window, 
 pub data Register : Type 0 where
   blank : Register
   standing : Settings → Register
-
--- the lengths of the two work areas of a call
-pub record Areas : Type 0 where
-  pub minutes : ℕ
-  pub amounts : ℕ
 
 -- ---- what a call sets
 

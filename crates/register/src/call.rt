@@ -3,7 +3,7 @@ ghost use Rattle.std.specs.Prelude.{◌≡◌};
 ghost use Rattle.register.specs.Calls.{named};
 
 // A call to a sheet, with its numbers.
-#[derive(Clone, Copy)]
+#[derive(Clone, Copy, PartialEq, Eq, Debug)]
 pub enum Call {
     // time the rotation anew, with this total
     Open { total: u16 },
@@ -25,20 +25,9 @@ impl Call {
         ensures { result ≡ named self }
     {
         match self {
-            Call::Bounds {
-                leg,
-                low: _,
-                high: _,
-            } => leg,
-            Call::Window {
-                stop,
-                low: _,
-                high: _,
-            } => stop,
-            Call::Lift { stop } => stop,
-            Call::Open { total: _ } => 0,
-            Call::Total { total: _ } => 0,
-            Call::Close => 0,
+            Call::Bounds { leg, .. } => leg,
+            Call::Window { stop, .. } | Call::Lift { stop } => stop,
+            _ => 0,
         }
     }
 }

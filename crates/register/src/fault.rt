@@ -1,13 +1,14 @@
 // The refusals of the sheet layer.
 ghost use Rattle.std.specs.Prelude.{◌≡◌};
-ghost use Rattle.register.specs.Faults.{told};
+ghost use Rattle.register.specs.Faults.{told, timeless};
 ghost use Rattle.register.specs.declared.fault.SheetFault.TheVariants.{Book};
 
 use board::{Layer, Refusal};
 use books::BookFault;
+use solver::PlanFault;
 
 // Why a sheet refuses a call; `leg` is the leg or stop that the refusal tells.
-#[derive(Clone, Copy)]
+#[derive(Clone, Copy, PartialEq, Eq, Debug)]
 pub enum SheetFault {
     // open on a standing sheet
     Standing { leg: u8 },
@@ -29,12 +30,12 @@ pub enum SheetFault {
     Book(BookFault),
 }
 
-impl SheetFault {
-    // The number, layer and leg of the refusal.
-    pub fn refusal(self) -> Refusal
-        ensures { result ≡ told self }
-    {
-        let (number, leg) = match self {
+// The number, layer and leg of the refusal.
+impl From<SheetFault> for Refusal {
+    ghost from_gives = { λ f r. r ≡ told f };
+
+    fn from(fault: SheetFault) -> Self {
+        let (number, leg) = match fault {
             SheetFault::Standing { leg } => (9, leg),
             SheetFault::Blank { leg } => (10, leg),
             SheetFault::NoSuchLeg { leg } => (11, leg),
@@ -43,7 +44,7 @@ impl SheetFault {
             SheetFault::OutsideEnds { leg } => (14, leg),
             SheetFault::ShortArea { leg } => (15, leg),
             SheetFault::NoTiming { leg } => (16, leg),
-            SheetFault::Book(fault) => return fault.refusal(),
+            SheetFault::Book(fault) => return fault.into(),
         };
         Refusal {
             number,
@@ -53,10 +54,23 @@ impl SheetFault {
     }
 }
 
+// A refusal of the book, passed on.
 impl From<BookFault> for SheetFault {
     ghost from_gives = { λ f r. r ≡ Book f };
 
-    fn from(below: BookFault) -> SheetFault {
+    fn from(below: BookFault) -> Self {
         SheetFault::Book(below)
+    }
+}
+
+// No timing, at the first leg at which nothing is left; a plan that does not fit the book names no leg.
+impl From<PlanFault> for SheetFault {
+    ghost from_gives = { λ f r. r ≡ timeless f };
+
+    fn from(below: PlanFault) -> Self {
+        match below {
+            PlanFault::Stuck { leg } => SheetFault::NoTiming { leg },
+            PlanFault::Unlawful => SheetFault::NoTiming { leg: 0 },
+        }
     }
 }

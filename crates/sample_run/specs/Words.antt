@@ -1,20 +1,6 @@
--- What is said of a rotation.
+-- What is said of a timing.
 -- Assumes nothing.
-use Rattle.std.specs.Prelude.{◌≡◌, ℕ, zero, suc, ◌+◌, ◌≤◌, ◌⊎◌, List, [], ◌++◌, ℤ, codes, decimal}
-use Rattle.std.specs.Fmt.{signed_decimal}
-use Rattle.board.specs.declared.Refusal.{Refusal}
-
--- an amount in kilograms
-abbrev pub words_of_kilograms : ℤ → List ℕ
-words_of_kilograms v = signed_decimal v ++ codes " kg"
-
--- an amount in kilograms with cents behind it
-abbrev pub words_of_cents : ℤ → ℤ → List ℕ
-words_of_cents v w = signed_decimal v ++ (codes " kg then " ++ (signed_decimal w ++ codes " cents"))
-
--- a refusal: its number and the leg that it tells
-abbrev pub words_of_refusal : Refusal → List ℕ
-words_of_refusal r = codes "refused " ++ (decimal r.number ++ (codes ", leg " ++ decimal r.leg))
+use Rattle.std.specs.Prelude.{◌≡◌, ℕ, zero, suc, ◌+◌, ◌≤◌, ◌⊎◌, List, [], ◌++◌, codes, decimal}
 
 -- the minutes x of the legs 1 to n, each behind a space
 unfoldable pub spaced : (ℕ → ℕ) → ℕ → List ℕ

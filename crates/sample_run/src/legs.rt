@@ -17,7 +17,7 @@ use optimum::Price;
 // A book of some legs, each flown in 50 to 70 minutes, that cost q kilograms times the square of their distance from 60.
 // Refused exactly if there are more than 64 legs.
 pub(crate) fn formula_book(q: u16, legs: u8) -> Result<FormulaBook, BookFault>
-    ensures { MatchResult result (λ b. (legs ≤ 64) × LegsOf (formulas b.legs b.count) legs (leg q)) (λ f. (64 < legs) × (told f ≡ row 5 65)) }
+    ensures { MatchResult result (λ b. (legs ≤ 64) × LegsOf (formulas b.legs.items) legs (leg q)) (λ f. (64 < legs) × (told f ≡ row 5 65)) }
 {
     let mut book = FormulaBook::new();
     for _ in 0..legs {
@@ -34,7 +34,7 @@ pub(crate) fn formula_book(q: u16, legs: u8) -> Result<FormulaBook, BookFault>
 
 // Two such legs, at 3 cents a minute on leg 1 and 2 cents a minute on leg 2.
 pub(crate) fn charge_book(q: u16) -> ChargeBook<FormulaBook>
-    ensures { LegsOf (formulas result.below.legs result.below.count) 2 (leg q) × (rate result.rates.values 1 ≡ 3) × (rate result.rates.values 2 ≡ 2) }
+    ensures { LegsOf (formulas result.below.legs.items) 2 (leg q) × (rate result.rates.values 1 ≡ 3) × (rate result.rates.values 2 ≡ 2) }
 {
     let mut book = ChargeBook::new(formula_book(q, 2).unwrap());
     book.set_rate(1, 3).unwrap();
@@ -45,7 +45,7 @@ pub(crate) fn charge_book(q: u16) -> ChargeBook<FormulaBook>
 // What a price is worth in a book: what one minute more than the price names costs on its leg, and zero on leg 0. Absent only if
 // the price names neither zero nor a step of the book.
 pub(crate) fn worth(book: &FormulaBook, price: Price) -> Option<Kilograms>
-    ensures { options.MatchOption result (prices.Named (formulas book.now.legs book.now.count) price → ⊥) (λ a. single (nearest a.value) ≡ prices.worth (formulas book.now.legs book.now.count) price) }
+    ensures { options.MatchOption result (prices.Named (formulas book.now.legs.items) price → ⊥) (λ a. single (nearest a.value) ≡ prices.worth (formulas book.now.legs.items) price) }
 {
     if price.leg == 0 {
         return Some(Kilograms::zero());

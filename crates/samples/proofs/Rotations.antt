@@ -13,7 +13,8 @@ use Rattle.optimum.proofs.Reach.{keeps_less}
 use Rattle.optimum.proofs.Sums.{spent_same}
 use Rattle.solver.specs.Plans.{First}
 use Rattle.states.specs.Costs.{flown}
-use Rattle.register.specs.Register.{Register, Areas, Cramped, Times, entry_rows, after}
+use Rattle.register.specs.Register.{Register, Cramped, Times, entry_rows, after}
+use Rattle.register.specs.declared.areas.Areas.{Areas}
 use Rattle.register.specs.declared.call.Call.{Call}
 use Rattle.states.proofs.Answering.{answered_granted, answered_stuck}
 use Rattle.samples.specs.Samples.{legs, G, rated, kilograms, kilograms_cents, KilogramsFirst, OneOf, Granted, Impossible}
@@ -132,7 +133,7 @@ granted_by {le} test tested b r call first others cost entered times meets all =
 -- in kilograms over G, and with cents behind them over the books with rates
 pub kilograms_by :
     (n : ℕ) (r : Register) (call : Call) (first : List ℕ) (others : List (List ℕ)) (v : ℕ) → Entered (G n) r call → Times call →
-    AllByRecursion (λ minutes. (keeps_test n (after (G n) r call) (flown minutes) n ≡ true) × (cost_of_timing (G n) (flown minutes) 0 ≡ pos v)) (first ∷ others) →
+    AllByRecursion (λ minutes. (keeps_test (G n).legs (after (G n) r call) (flown minutes) (G n).legs ≡ true) × (cost_of_timing (G n) (flown minutes) 0 ≡ pos v)) (first ∷ others) →
     AllLeast number_test (G n) (after (G n) r call) (kilograms v) (first ∷ others) → Granted (G n) ByNumber r call (first ∷ others) (kilograms v)
 kilograms_by n r call first others v entered times each all =
     let meets = every_then (λ minutes is. (is.0, legs_cost 1 n (flown minutes) ∙ ap single is.1)) (first ∷ others) each in

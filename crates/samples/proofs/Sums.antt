@@ -10,12 +10,12 @@ use Rattle.optimum.specs.Rotation.{spent, cost_of_timing}
 use Rattle.samples.specs.Samples.{leg, legs, rated}
 
 -- kilograms on the legs add up to kilograms
-number_sum : (ls : List FormulaLeg) (n : ℕ) (x : ℕ → ℕ) (k : ℕ) → spent (formulas ls n) x k ≡ single (spent (formulas ls n) x k 0)
+number_sum : (ls : List FormulaLeg) (x : ℕ → ℕ) (k : ℕ) → spent (formulas ls) x k ≡ single (spent (formulas ls) x k 0)
 unfolding spent plus single none
-number_sum ls n x zero = sym single_zero
-number_sum ls n x (suc k) =
+number_sum ls x zero = sym single_zero
+number_sum ls x (suc k) =
     let v = kilograms (at ls (suc k)) (x (suc k)) in
-    ap (λ r. plus r (single v)) (number_sum ls n x k) ∙ plus-single (spent (formulas ls n) x k 0) v
+    ap (λ r. plus r (single v)) (number_sum ls x k) ∙ plus-single (spent (formulas ls) x k 0) v
 
 -- an amount in kilograms and cents
 abbrev pair : ℤ → ℤ → Row
@@ -29,19 +29,19 @@ plus-pair a b c d = rw (plus-joined, plus-single a c, plus-single b d)
 
 -- kilograms and cents on the legs add up to kilograms and cents
 ranked_sum :
-    (ls : List FormulaLeg) (n : ℕ) (rates : List ℕ) (x : ℕ → ℕ) (k : ℕ) →
-    spent (charged 1 (formulas ls n) rates) x k ≡ pair (spent (charged 1 (formulas ls n) rates) x k 0) (spent (charged 1 (formulas ls n) rates) x k 1)
+    (ls : List FormulaLeg) (rates : List ℕ) (x : ℕ → ℕ) (k : ℕ) →
+    spent (charged 1 (formulas ls) rates) x k ≡ pair (spent (charged 1 (formulas ls) rates) x k 0) (spent (charged 1 (formulas ls) rates) x k 1)
 unfolding spent plus single none joined
-ranked_sum ls n rates x zero = no_pair
-ranked_sum ls n rates x (suc k) =
+ranked_sum ls rates x zero = no_pair
+ranked_sum ls rates x (suc k) =
     let v = kilograms (at ls (suc k)) (x (suc k)) in
     let w = pos (rate rates (suc k) * x (suc k)) in
-    let before = spent (charged 1 (formulas ls n) rates) x k in
-    ap (λ r. plus r (pair v w)) (ranked_sum ls n rates x k) ∙ plus-pair (before 0) (before 1) v w
+    let before = spent (charged 1 (formulas ls) rates) x k in
+    ap (λ r. plus r (pair v w)) (ranked_sum ls rates x k) ∙ plus-pair (before 0) (before 1) v w
 
 -- in the books of the samples
 pub legs_cost : (q n : ℕ) (x : ℕ → ℕ) → cost_of_timing (legs q n) x ≡ single (cost_of_timing (legs q n) x 0)
-legs_cost q n x = number_sum (replicate n (leg q)) n x n
+legs_cost q n x = number_sum (replicate n (leg q)) x _
 
 pub rated_cost : (q n : ℕ) (x : ℕ → ℕ) → cost_of_timing (rated (legs q n)) x ≡ pair (cost_of_timing (rated (legs q n)) x 0) (cost_of_timing (rated (legs q n)) x 1)
-rated_cost q n x = ranked_sum (replicate n (leg q)) n (3 ∷ 2 ∷ []) x n
+rated_cost q n x = ranked_sum (replicate n (leg q)) (3 ∷ 2 ∷ []) x _

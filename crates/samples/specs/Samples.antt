@@ -13,7 +13,8 @@ use Rattle.optimum.specs.Rotation.{Cheapest, cost_of_timing}
 use Rattle.optimum.specs.declared.Price.{Price}
 use Rattle.states.specs.Costs.{flown}
 use Rattle.register.specs.Faults.{row}
-use Rattle.register.specs.Register.{Register, Areas, Cramped, Answered, blank, standing, granted, refused, after}
+use Rattle.register.specs.declared.areas.Areas.{Areas}
+use Rattle.register.specs.Register.{Register, Cramped, Answered, blank, standing, granted, refused, after}
 use Rattle.register.specs.declared.call.Call.{Call}
 use Rattle.register.specs.declared.call.Call.TheVariants.{Open, Window, Total}
 
@@ -25,7 +26,7 @@ leg q = record { q = q; t = 60; r = pos 0; lo = 50; hi = 70 }
 
 -- a book of n such legs
 abbrev pub legs : ℕ → ℕ → Meaning
-legs q n = formulas (replicate n (leg q)) n
+legs q n = formulas (replicate n (leg q))
 
 -- the book G of n legs
 abbrev pub G : ℕ → Meaning

@@ -3,13 +3,14 @@
 use Rattle.std.specs.Prelude.{◌≡◌, ℕ, min, List, map}
 use Rattle.amounts.specs.Rows.{Row, Same}
 use Rattle.books.specs.Meaning.{Meaning}
-use Rattle.register.specs.Register.{Register, Areas, Reply, refused, granted, closed, Answered}
+use Rattle.register.specs.Register.{Register, Reply, refused, granted, closed, Answered}
+use Rattle.register.specs.declared.areas.Areas.{Areas}
 use Rattle.register.specs.declared.call.Call.{Call}
 use Rattle.sheet.specs.declared.calls.Asked.{Asked}
 
 -- what the register is told of a call: it is handed as many places as were asked for, as far as the areas reach
 abbrev pub told_of : Areas → Asked → Call × Areas
-told_of room asked = (asked.call, record { minutes = min asked.minutes room.minutes; amounts = min asked.amounts room.amounts })
+told_of room asked = (asked.call, record { minutes = min asked.areas.minutes room.minutes; amounts = min asked.areas.amounts room.amounts })
 
 -- what the register is told of a list of calls
 abbrev pub fed : Areas → List Asked → List (Call × Areas)

@@ -1,21 +1,21 @@
 // Any list of calls on a new sheet, and the whole promise of it.
-ghost use Rattle.std.specs.Prelude.{◌≡◌, ◌<◌, map, length, take, drop, IfOk, OnErr, slice_set};
+ghost use Rattle.std.specs.Prelude.{◌≡◌, map, length, take, drop, IfOk};
 ghost use Rattle.register.specs.Register.{Run, blank};
 ghost use Rattle.register.specs.Replies.{reply};
+ghost use Rattle.sheet.specs.Calls.{Called};
 ghost use Rattle.sheet.specs.Runs.{fed, OneAnswer};
-ghost use Rattle.states.specs.States.{reading, lent, Sound, Carried};
+ghost use Rattle.states.specs.States.{reading, lent, Sound};
 
 use crate::sheet::Sheet;
 use books::Book;
-use register::{Call, SheetFault};
+use register::{Areas, Call, SheetFault};
 use std::alloc::{AllocError, Global};
 
 // A call, and how many places of the two work areas it is handed.
-#[derive(Clone, Copy)]
+#[derive(Clone, Copy, PartialEq, Eq, Debug)]
 pub struct Asked {
     pub call: Call,
-    pub minutes: usize,
-    pub amounts: usize,
+    pub areas: Areas,
 }
 
 impl<B: Book> Sheet<B> {
@@ -26,20 +26,10 @@ impl<B: Book> Sheet<B> {
         minutes: &mut [u16],
         amounts: &mut [B::Cost],
     ) -> Result<Option<B::Cost>, SheetFault>
-        ensures carried { Carried (B.meaning self.old.book) B.Cost.Amount.le self.old.state call (lent minutes.old amounts.old) (reply B.Cost.Amount.row result) self.new.state }
-        ensures over { self.new.book ≡ self.old.book }
-        ensures unwritten { OnErr result ((self.new.state ≡ self.old.state) × (minutes.new ≡ minutes.old) × (amounts.new ≡ amounts.old)) }
+        ensures { Called B.meaning B.Cost.Amount.le (reply B.Cost.Amount.row) self.old self.new call minutes.old minutes.new amounts.old amounts.new result }
     {
         self.state.call(&self.book, call, minutes, amounts)
     }
-}
-
-// Puts a value into one of the places, and leaves the others.
-fn put<T: Copy>(places: &mut [T], k: usize, value: T)
-    requires { k < length places.old }
-    ensures { places.new ≡ slice_set places.old k value }
-{
-    places[k] = value;
 }
 
 // Makes a blank sheet over a book and carries out a list of calls on it, each with as many places of the two areas as it asks
@@ -59,12 +49,14 @@ pub fn run_into<B: Book>(
     ensures one { OneAnswer (B.meaning book) B.Cost.Amount.le B.Cost.Amount.places }
 {
     let mut sheet = Sheet::new(book);
-    for k in 0..calls.len().min(answers.len()) {
-        let asked = calls[k];
-        let m = asked.minutes.min(minutes.len());
-        let a = asked.amounts.min(amounts.len());
-        let answer = sheet.call(asked.call, &mut minutes[0..m], &mut amounts[0..a]);
-        put(answers, k, answer);
+    // with the index of a call: after `iter_mut` and `zip` nothing is known of the answers
+    for (k, answer) in answers.iter_mut().enumerate() {
+        let Some(asked) = calls.get(k) else {
+            break;
+        };
+        let m = asked.areas.minutes.min(minutes.len());
+        let a = asked.areas.amounts.min(amounts.len());
+        *answer = sheet.call(asked.call, &mut minutes[..m], &mut amounts[..a]);
     }
     sheet
 }

@@ -1,16 +1,20 @@
 // The sheet of a rotation over a book: its calls and its questions.
-ghost use Rattle.std.specs.Prelude.{◌≡◌, ◌<◌, IfErr, MatchOption, OnErr, ◌≢◌};
+ghost use Rattle.std.specs.Prelude.{◌≡◌, ℕ, ◌+◌, ◌<◌, length, slice_index, IfErr, MatchOption, OnErr, ◌≢◌};
 ghost use Rattle.books.specs.Meaning.{IsLeg};
 ghost use Rattle.optimum.specs.Rotation.{cost_of_timing};
+ghost use Rattle.solver.specs.Plans.{at, price_at};
 ghost use Rattle.register.specs.Faults.{told};
-ghost use Rattle.register.specs.Register.{Areas, Stands, Times, blank};
+ghost use Rattle.register.specs.Register.{Stands, Times, blank};
+ghost use Rattle.register.specs.declared.areas.Areas.{Areas};
 ghost use Rattle.register.specs.Replies.{timed, shut};
-ghost use Rattle.states.specs.States.{reading, minutes_of, prices_of, Sound, lent, Carried};
+ghost use Rattle.sheet.specs.Calls.{Called};
+ghost use Rattle.states.specs.States.{reading, minutes_of, prices_of, Sound, Carried};
 ghost use Rattle.register.specs.declared.call.Call.TheVariants.{Open, Bounds, Window, Lift, Total, Close};
 
 use books::Book;
 use optimum::Price;
 use register::{Call, SheetFault};
+use solver::Solution;
 use states::State;
 
 // A sheet: blank, or standing with settings (a total, the bounds of every leg, the window of every stop), one timing that
@@ -39,9 +43,7 @@ impl<B: Book> Sheet<B> {
         minutes: &mut [u16],
         amounts: &mut [B::Cost],
     ) -> Result<B::Cost, SheetFault>
-        ensures carried { Carried (B.meaning self.old.book) B.Cost.Amount.le self.old.state (Open total) (lent minutes.old amounts.old) (timed B.Cost.Amount.row result) self.new.state }
-        ensures over { self.new.book ≡ self.old.book }
-        ensures unwritten { OnErr result ((self.new.state ≡ self.old.state) × (minutes.new ≡ minutes.old) × (amounts.new ≡ amounts.old)) }
+        ensures { Called B.meaning B.Cost.Amount.le (timed B.Cost.Amount.row) self.old self.new (Open total) minutes.old minutes.new amounts.old amounts.new result }
     {
         self.timed(Call::Open { total }, minutes, amounts)
     }
@@ -55,9 +57,7 @@ impl<B: Book> Sheet<B> {
         minutes: &mut [u16],
         amounts: &mut [B::Cost],
     ) -> Result<B::Cost, SheetFault>
-        ensures carried { Carried (B.meaning self.old.book) B.Cost.Amount.le self.old.state (Bounds leg low high) (lent minutes.old amounts.old) (timed B.Cost.Amount.row result) self.new.state }
-        ensures over { self.new.book ≡ self.old.book }
-        ensures unwritten { OnErr result ((self.new.state ≡ self.old.state) × (minutes.new ≡ minutes.old) × (amounts.new ≡ amounts.old)) }
+        ensures { Called B.meaning B.Cost.Amount.le (timed B.Cost.Amount.row) self.old self.new (Bounds leg low high) minutes.old minutes.new amounts.old amounts.new result }
     {
         self.timed(Call::Bounds { leg, low, high }, minutes, amounts)
     }
@@ -71,9 +71,7 @@ impl<B: Book> Sheet<B> {
         minutes: &mut [u16],
         amounts: &mut [B::Cost],
     ) -> Result<B::Cost, SheetFault>
-        ensures carried { Carried (B.meaning self.old.book) B.Cost.Amount.le self.old.state (Window stop low high) (lent minutes.old amounts.old) (timed B.Cost.Amount.row result) self.new.state }
-        ensures over { self.new.book ≡ self.old.book }
-        ensures unwritten { OnErr result ((self.new.state ≡ self.old.state) × (minutes.new ≡ minutes.old) × (amounts.new ≡ amounts.old)) }
+        ensures { Called B.meaning B.Cost.Amount.le (timed B.Cost.Amount.row) self.old self.new (Window stop low high) minutes.old minutes.new amounts.old amounts.new result }
     {
         self.timed(Call::Window { stop, low, high }, minutes, amounts)
     }
@@ -85,9 +83,7 @@ impl<B: Book> Sheet<B> {
         minutes: &mut [u16],
         amounts: &mut [B::Cost],
     ) -> Result<B::Cost, SheetFault>
-        ensures carried { Carried (B.meaning self.old.book) B.Cost.Amount.le self.old.state (Lift stop) (lent minutes.old amounts.old) (timed B.Cost.Amount.row result) self.new.state }
-        ensures over { self.new.book ≡ self.old.book }
-        ensures unwritten { OnErr result ((self.new.state ≡ self.old.state) × (minutes.new ≡ minutes.old) × (amounts.new ≡ amounts.old)) }
+        ensures called { Called B.meaning B.Cost.Amount.le (timed B.Cost.Amount.row) self.old self.new (Lift stop) minutes.old minutes.new amounts.old amounts.new result }
         ensures stays { Sound (B.meaning self.old.book) B.Cost.Amount.le self.old.state → IfErr result (λ f. (told f).number ≢ 16) }
     {
         self.timed(Call::Lift { stop }, minutes, amounts)
@@ -100,9 +96,7 @@ impl<B: Book> Sheet<B> {
         minutes: &mut [u16],
         amounts: &mut [B::Cost],
     ) -> Result<B::Cost, SheetFault>
-        ensures carried { Carried (B.meaning self.old.book) B.Cost.Amount.le self.old.state (Total total) (lent minutes.old amounts.old) (timed B.Cost.Amount.row result) self.new.state }
-        ensures over { self.new.book ≡ self.old.book }
-        ensures unwritten { OnErr result ((self.new.state ≡ self.old.state) × (minutes.new ≡ minutes.old) × (amounts.new ≡ amounts.old)) }
+        ensures { Called B.meaning B.Cost.Amount.le (timed B.Cost.Amount.row) self.old self.new (Total total) minutes.old minutes.new amounts.old amounts.new result }
     {
         self.timed(Call::Total { total }, minutes, amounts)
     }
@@ -116,34 +110,44 @@ impl<B: Book> Sheet<B> {
         self.state.close(&self.book)
     }
 
+    // The minutes of the legs 1 to n, leg 1 first; absent on a blank sheet.
+    pub fn timing(&self) -> Option<&[u16]>
+        ensures { MatchOption result (Stands (reading self.now.state) → ⊥) (λ ms. Stands (reading self.now.state) × (length ms.now ≡ (B.meaning self.now.book).legs) × ((k : ℕ) → k < (B.meaning self.now.book).legs → slice_index ms.now k ≡ minutes_of self.now.state (k + 1))) }
+    {
+        let Some(standing) = &self.state.standing else {
+            return None;
+        };
+        Some(standing.timing(&self.book))
+    }
+
     // The minutes of a leg; absent on a blank sheet or for a leg that is not there.
     pub fn minutes(&self, leg: u8) -> Option<u16>
         ensures { MatchOption result (Stands (reading self.now.state) × IsLeg (B.meaning self.now.book) leg → ⊥) (λ m. Stands (reading self.now.state) × IsLeg (B.meaning self.now.book) leg × (m ≡ minutes_of self.now.state leg)) }
     {
-        let Some(place) = self.place(leg) else {
+        let Some((found, place)) = self.place(leg) else {
             return None;
         };
-        Some(self.state.minutes[place])
+        Some(found.minutes[place])
     }
 
     // The price of a leg, as the leg and minute that name it; absent on a blank sheet or for a leg that is not there.
     pub fn price(&self, leg: u8) -> Option<Price>
         ensures { MatchOption result (Stands (reading self.now.state) × IsLeg (B.meaning self.now.book) leg → ⊥) (λ p. Stands (reading self.now.state) × IsLeg (B.meaning self.now.book) leg × (p ≡ prices_of self.now.state leg)) }
     {
-        let Some(place) = self.place(leg) else {
+        let Some((found, place)) = self.place(leg) else {
             return None;
         };
-        Some(self.state.prices[place])
+        Some(found.prices[place])
     }
 
     // The cost of the timing that stands; absent on a blank sheet.
     pub fn cost(&self) -> Option<B::Cost>
         ensures { Sound (B.meaning self.now.book) B.Cost.Amount.le self.now.state → MatchOption result (Stands (reading self.now.state) → ⊥) (λ a. Stands (reading self.now.state) × (B.Cost.Amount.row a ≡ cost_of_timing (B.meaning self.now.book) (minutes_of self.now.state))) }
     {
-        let Some(cost) = self.state.cost(&self.book) else {
+        let Some(standing) = &self.state.standing else {
             return None;
         };
-        Some(cost)
+        standing.cost(&self.book)
     }
 
     // Carries out a call that puts a timing on the sheet.
@@ -154,25 +158,24 @@ impl<B: Book> Sheet<B> {
         amounts: &mut [B::Cost],
     ) -> Result<B::Cost, SheetFault>
         requires { Times call }
-        ensures carried { Carried (B.meaning self.old.book) B.Cost.Amount.le self.old.state call (lent minutes.old amounts.old) (timed B.Cost.Amount.row result) self.new.state }
-        ensures over { self.new.book ≡ self.old.book }
-        ensures unwritten { OnErr result ((self.new.state ≡ self.old.state) × (minutes.new ≡ minutes.old) × (amounts.new ≡ amounts.old)) }
+        ensures { Called B.meaning B.Cost.Amount.le (timed B.Cost.Amount.row) self.old self.new call minutes.old minutes.new amounts.old amounts.new result }
     {
         let cost = self.state.call(&self.book, call, minutes, amounts)?;
         Ok(cost.unwrap())
     }
 
-    // Where a leg stands in the arrays; absent on a blank sheet or for a leg that the book does not have.
-    fn place(&self, leg: u8) -> Option<usize>
-        ensures { MatchOption result (Stands (reading self.now.state) × IsLeg (B.meaning self.now.book) leg → ⊥) (λ i. Stands (reading self.now.state) × IsLeg (B.meaning self.now.book) leg × (i ≡ leg) × (i < 65)) }
+    // The timing and prices that stand, and the place of a leg in them; absent on a blank sheet or for a leg that the book
+    // does not have.
+    fn place(&self, leg: u8) -> Option<(&Solution, usize)>
+        ensures { MatchOption result (Stands (reading self.now.state) × IsLeg (B.meaning self.now.book) leg → ⊥) (λ p. Stands (reading self.now.state) × IsLeg (B.meaning self.now.book) leg × (at p.0.now.minutes ≡ minutes_of self.now.state) × (price_at p.0.now.prices ≡ prices_of self.now.state) × (p.1 ≡ leg) × (p.1 < 65)) }
     {
         self.book.keeps_laws();
-        if !self.state.standing {
+        let Some(standing) = &self.state.standing else {
             return None;
-        }
+        };
         let Some(_ends) = self.book.ends(leg as usize) else {
             return None;
         };
-        Some(leg as usize)
+        Some((&standing.found, leg as usize))
     }
 }

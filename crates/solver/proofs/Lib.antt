@@ -3,3 +3,5 @@ pub mod Moves
 pub mod Places
 pub mod Markup
 pub mod Spans
+pub mod Summing
+pub mod Tests

@@ -1,5 +1,5 @@
 -- Prices of a cheapest timing, leg by leg and over the stops. Assumes nothing.
-use Rattle.std.proofs.Common.{◌≡◌, ℕ, ◌+◌, ◌-◌, ◌<◌, ◌≤◌, ◌≢◌, ◌⊎◌, List, length, set, sym, subst, inr, ⊎_elim, arith}
+use Rattle.std.proofs.Common.{◌≡◌, ℕ, ◌+◌, ◌-◌, ◌<◌, ◌≤◌, ◌≢◌, ◌⊎◌, List, length, set, sym, refl, ap, ◌∙◌, subst, subst₂, inl, inr, ⊎_elim, arith}
 use Rattle.std.proofs.lemmas.Bool.{cases_eq}
 use Rattle.std.proofs.lemmas.List.{get_or-set_same, get_or-set_other}
 use Rattle.amounts.specs.Rows.{Row}
@@ -11,10 +11,10 @@ use Rattle.optimum.specs.Rotation.{Settings, reached, earliest, latest, Cheapest
 use Rattle.amounts.specs.RowLaws.{le_refl}
 use Rattle.optimum.specs.Method.{Fits, Safe}
 use Rattle.optimum.proofs.Fair.{safe_low, safe_last, safe_right, safe_left, worth-step}
-use Rattle.solver.specs.Steps.{Before, edge_row, Leads}
+use Rattle.books.specs.declared.Ends.{Ends}
+use Rattle.solver.specs.Steps.{Up, Before, edge_row, NoneOpen, Leads}
 use Rattle.solver.specs.Pricing.{Floor, Fair, FairUp, Rises, Falls}
-use Rattle.solver.specs.Plans.{price_at}
-use Rattle.solver.specs.declared.steps.Move.TheVariants.{Raise}
+use Rattle.solver.specs.Plans.{los, his, price_at}
 
 -- the price of leg j after a write at leg i
 pub after_price : (P : Price → Type 0) (ps : List Price) (i : ℕ) (p : Price) (j : ℕ) → i < length ps → (j ≡ i → P p) → (j ≢ i → P (price_at ps j)) → P (price_at (set ps i p) j)
@@ -38,8 +38,10 @@ module _ {places : ℕ} {le : Row → Row → Type 0} (order : Order places le) 
 
 module _ {places : ℕ} {le : Row → Row → Type 0} {b : Meaning} {s : Settings} {x : ℕ → ℕ} (order : Order places le) where
   -- the least next step of all
-  pub floor_least : (i : ℕ) → Fits b s → Cheapest b le s x → Leads (Before Raise le) (edge_row b Raise x s.high) x s.high b.legs i → Floor b le s x (record { leg = i; minute = x i })
-  floor_least i fits cheapest leads =
+  pub floor_least : (es : List Ends) (i : ℕ) → los es ≡ x → his es ≡ s.high → Fits b s → Cheapest b le s x → Leads (Before Up le) (edge_row b Up es) es b.legs i → Floor b le s x (record { leg = i; minute = x i })
+  floor_least es i low-is high-is fits cheapest leads =
+      let l = ap (λ f. f i) low-is in
+      let u = ap (λ f. f i) high-is in
       let p : Price = record { leg = i; minute = x i } in
       let leg : IsLeg b i = (leads.0, leads.1) in
       let bounds = cheapest.timing.bounds i leads.0 leads.1 in
@@ -47,7 +49,21 @@ module _ {places : ℕ} {le : Row → Row → Type 0} {b : Meaning} {s : Setting
       let open' = leads.2 in
       record {
         named = inr (leg, omega arith, omega arith);
-        least = λ j l more. subst (λ v. le v (step b j (x j))) (sym (worth-step b p leads.0)) (leads.3 j l.0 l.1 more);
+        least = λ j leg' more.
+            let lj = ap (λ f. f j) low-is in
+            let uj = ap (λ f. f j) high-is in
+            subst₂ le (ap (step b i) l ∙ sym (worth-step b p leads.0)) (ap (step b j) lj) (leads.3 j leg'.0 leg'.1 (omega arith));
+      }
+
+  -- where no leg can be longer
+  pub floor_none : (es : List Ends) → los es ≡ x → his es ≡ s.high → NoneOpen es b.legs → Floor b le s x (record { leg = 0; minute = 0 })
+  floor_none es low-is high-is none =
+      record {
+        named = inl (refl, refl);
+        least = λ j leg more.
+            let lj = ap (λ f. f j) low-is in
+            let uj = ap (λ f. f j) high-is in
+            absurd (none j leg.0 leg.1 (omega arith));
       }
 
   -- the greater of the floor and the last step

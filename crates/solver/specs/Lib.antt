@@ -1,3 +1,4 @@
+pub mod Narrowing
 pub mod Outcomes
 pub mod Plans
 pub mod Pricing

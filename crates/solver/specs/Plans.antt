@@ -2,6 +2,7 @@
 -- Assumes nothing.
 use Rattle.std.specs.Prelude.{ℕ, ◌<◌, ◌≤◌, List, slice_index, slice_index_or}
 use Rattle.books.specs.Meaning.{Meaning, IsLeg}
+use Rattle.books.specs.declared.Ends.{Ends}
 use Rattle.optimum.specs.Rotation.{Settings, Stuck, Timing}
 use Rattle.optimum.specs.declared.Price.{Price}
 use Rattle.solver.specs.declared.plan.Plan.{Plan}
@@ -10,13 +11,34 @@ use Rattle.solver.specs.declared.plan.Plan.{Plan}
 abbrev pub at : List ℕ → ℕ → ℕ
 at xs i = slice_index xs i
 
+-- the range of leg or stop i in an array of ranges, its lower end, and its upper one; beyond it both are 0
+abbrev pub range : List Ends → ℕ → Ends
+range es i = slice_index_or es i (record { lo = 0; hi = 0 })
+
+abbrev pub los : List Ends → ℕ → ℕ
+los es i = (range es i).lo
+
+abbrev pub his : List Ends → ℕ → ℕ
+his es i = (range es i).hi
+
+-- when the window of stop k opens in an array of windows, and when it shuts; beyond it windows are 0 to 4,095
+abbrev pub open_from : List Ends → ℕ → ℕ
+open_from es k = (slice_index_or es k (record { lo = 0; hi = 4095 })).lo
+
+abbrev pub open_to : List Ends → ℕ → ℕ
+open_to es k = (slice_index_or es k (record { lo = 0; hi = 4095 })).hi
+
 -- the price of leg i in an array; beyond it the price zero
 abbrev pub price_at : List Price → ℕ → Price
 price_at ps i = slice_index_or ps i (record { leg = 0; minute = 0 })
 
 -- the settings that a plan holds; beyond its arrays, where no leg or stop is, bounds are 0 and windows 0 to 4,095
 abbrev pub settings : Plan → Settings
-settings p = record { total = p.total; low = at p.low; high = at p.high; opens = at p.opens; shuts = λ k. slice_index_or p.shuts k 4095 }
+settings p = record { total = p.total; low = los p.bounds; high = his p.bounds; opens = open_from p.windows; shuts = open_to p.windows }
+
+-- a range is in order and lies inside another
+abbrev pub Inside : Ends → Ends → Type 0
+Inside e o = (o.lo ≤ e.lo) × (e.lo ≤ e.hi) × (e.hi ≤ o.hi)
 
 -- the bounds of leg i are in order and within its ends
 abbrev pub BoundsFit : Meaning → Settings → ℕ → Type 0

@@ -1,6 +1,6 @@
 -- Prices on the way to the price rule.
 -- Assumes nothing.
-use Rattle.std.specs.Prelude.{◌≡◌, ℕ, ◌+◌, ◌-◌, ◌<◌, ◌≤◌, List, length}
+use Rattle.std.specs.Prelude.{ℕ, ◌+◌, ◌-◌, ◌<◌, ◌≤◌, List}
 use Rattle.amounts.specs.Rows.{Row}
 use Rattle.books.specs.Meaning.{Meaning, IsLeg, step}
 use Rattle.optimum.specs.declared.Price.{Price}
@@ -12,7 +12,6 @@ use Rattle.solver.specs.declared.plan.Plan.{Plan}
 
 -- minutes that are a cheapest timing of a plan whose bounds lie in the book's ends
 pub record Timed (b : Meaning) (le : Row → Row → Type 0) (p : Plan) (xs : List ℕ) : Type 0 where
-  pub places : length xs ≡ 65
   pub fits : Fits b (settings p)
   pub cheapest : Cheapest b le (settings p) (at xs)
 

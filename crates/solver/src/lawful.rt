@@ -1,39 +1,49 @@
 // Whether a plan fits a book.
 ghost use Rattle.std.specs.Prelude.{ℕ, ◌<◌, ◌≤◌, MatchBool};
 ghost use Rattle.books.specs.Meaning.{IsLeg};
-ghost use Rattle.solver.specs.Plans.{settings, BoundsFit, WindowsFit, Lawful};
+ghost use Rattle.solver.specs.Plans.{settings, Inside, BoundsFit, WindowsFit, Lawful};
 
 use crate::plan::Plan;
-use books::Book;
+use books::{Book, Ends, LAST_MINUTE};
+
+// Whether a range is in order and lies inside another.
+fn inside(range: Ends, outer: Ends) -> bool
+    ensures { MatchBool result (Inside range outer) (Inside range outer → ⊥) }
+{
+    outer.lo <= range.lo && range.lo <= range.hi && range.hi <= outer.hi
+}
+
+// Whether there is such a leg, with its bounds in order and within its ends.
+fn leg_fits<B: Book>(book: &B, plan: &Plan, leg: usize) -> bool
+    ensures { MatchBool result (BoundsFit (B.meaning book.now) (settings plan.now) leg) (IsLeg (B.meaning book.now) leg → BoundsFit (B.meaning book.now) (settings plan.now) leg → ⊥) }
+{
+    book.keeps_laws();
+    let Some(ends) = book.ends(leg) else {
+        return false;
+    };
+    inside(plan.bounds[leg], ends)
+}
 
 // Whether the bounds of every leg are in order and within its ends.
 fn bounds_fit<B: Book>(book: &B, plan: &Plan) -> bool
     ensures { MatchBool result ((i : ℕ) → IsLeg (B.meaning book.now) i → BoundsFit (B.meaning book.now) (settings plan.now) i) (((i : ℕ) → IsLeg (B.meaning book.now) i → BoundsFit (B.meaning book.now) (settings plan.now) i) → ⊥) }
 {
     book.keeps_laws();
-    for k in 0..book.legs() {
-        let leg = k + 1;
-        let Some(ends) = book.ends(leg) else {
-            return false;
-        };
-        if plan.low[leg] < ends.lo || plan.high[leg] < plan.low[leg] || ends.hi < plan.high[leg] {
-            return false;
-        }
-    }
-    true
+    (1..book.legs() + 1).all(|leg| leg_fits(book, plan, leg))
 }
 
-// Whether the window of every stop before the last is in order and ends by 4,095.
+// Whether the window of every stop before the last is in order and ends by the last minute.
 fn windows_fit(plan: &Plan, legs: usize) -> bool
-    requires { legs < 65 }
+    requires { (1 ≤ legs) × (legs < 65) }
     ensures { MatchBool result ((k : ℕ) → 1 ≤ k → k < legs → WindowsFit (settings plan.now) k) (((k : ℕ) → 1 ≤ k → k < legs → WindowsFit (settings plan.now) k) → ⊥) }
 {
-    for k in 1..legs {
-        if plan.shuts[k] < plan.opens[k] || 4095 < plan.shuts[k] {
-            return false;
-        }
-    }
-    true
+    let day = Ends {
+        lo: 0,
+        hi: LAST_MINUTE,
+    };
+    plan.windows[1..legs]
+        .iter()
+        .all(|window| inside(*window, day))
 }
 
 // Whether a plan is one that fits a book.
@@ -42,11 +52,5 @@ pub(crate) fn lawful<B: Book>(book: &B, plan: &Plan) -> bool
 {
     book.keeps_laws();
     let legs = book.legs();
-    if legs == 0 || 4095 < plan.total {
-        return false;
-    }
-    if !bounds_fit(book, plan) {
-        return false;
-    }
-    windows_fit(plan, legs)
+    legs > 0 && plan.total <= LAST_MINUTE && bounds_fit(book, plan) && windows_fit(plan, legs)
 }

@@ -1,14 +1,14 @@
 // Prices of a cheapest timing: one for each leg, such that the price rule holds.
-ghost use Rattle.std.specs.Prelude.{◌≡◌, ℕ, ◌+◌, ◌<◌, ◌≤◌, ◌⊎◌, length};
+ghost use Rattle.std.specs.Prelude.{◌≡◌, ℕ, ◌+◌, ◌<◌, ◌≤◌, ◌⊎◌, slice_index};
 ghost use Rattle.books.specs.Meaning.{IsLeg};
+ghost use Rattle.optimum.specs.Rotation.{reached};
 ghost use Rattle.optimum.specs.Prices.{Named, PriceRule, worth};
 ghost use Rattle.solver.specs.Plans.{at, settings, price_at};
 ghost use Rattle.solver.specs.Pricing.{Timed, Floor, Fair, FairUp, Rises, Falls};
 
-use crate::narrow::sum;
 use crate::plan::Plan;
-use crate::reach::{closing, opening};
-use crate::steps::{Move, gather, leader, step_from};
+use crate::steps::{gather, leader, step_from};
+use crate::way::Raise;
 use amounts::Amount;
 use books::Book;
 use optimum::Price;
@@ -39,15 +39,19 @@ fn greater<B: Book>(book: &B, old: Price, new: Price) -> Price
     }
 }
 
+// What is known of the minutes stands in the contracts, and not in a struct of book, plan and minutes: a ghost field must have
+// one proof at most, and that is not known of an order of amounts.
+
 // The least next step of all legs that can be longer, as a price; zero if there is none.
-fn base<B: Book>(book: &B, plan: &Plan, minutes: &[u16], steps: &mut [B::Cost]) -> Price
+fn base<B: Book>(book: &B, plan: &Plan, minutes: &[u16; 65], steps: &mut [B::Cost]) -> Price
     requires { Timed (B.meaning book.now) B.Cost.Amount.le plan.now minutes.now }
     ensures { Floor (B.meaning book.now) B.Cost.Amount.le (settings plan.now) (at minutes.now) result }
 {
     book.keeps_laws();
     let legs = book.legs();
-    gather(Move::Raise, book, minutes, &plan.high, legs, steps);
-    let Some(leg) = leader(Move::Raise, book, minutes, &plan.high, legs, steps) else {
+    let ranges = plan.above(minutes);
+    gather::<Raise, B>(book, &ranges, legs, steps);
+    let Some(leg) = leader::<Raise, B>(book, &ranges, legs, steps) else {
         return ZERO;
     };
     Price {
@@ -57,12 +61,18 @@ fn base<B: Book>(book: &B, plan: &Plan, minutes: &[u16], steps: &mut [B::Cost]) 
 }
 
 // The first price of a leg: the greater of the base and the step that the leg took last.
-fn first_price<B: Book>(book: &B, plan: &Plan, minutes: &[u16], base: Price, leg: usize) -> Price
+fn first_price<B: Book>(
+    book: &B,
+    plan: &Plan,
+    minutes: &[u16; 65],
+    base: Price,
+    leg: usize,
+) -> Price
     requires { IsLeg (B.meaning book.now) leg × Timed (B.meaning book.now) B.Cost.Amount.le plan.now minutes.now × Floor (B.meaning book.now) B.Cost.Amount.le (settings plan.now) (at minutes.now) base }
     ensures { Fair (B.meaning book.now) B.Cost.Amount.le (settings plan.now) (at minutes.now) leg result }
 {
     book.keeps_laws();
-    if minutes[leg] <= plan.low[leg] {
+    if minutes[leg] <= plan.bounds[leg].lo {
         return base;
     }
     let last = Price {
@@ -73,36 +83,53 @@ fn first_price<B: Book>(book: &B, plan: &Plan, minutes: &[u16], base: Price, leg
 }
 
 // The first prices of all legs.
-fn first_prices<B: Book>(book: &B, plan: &Plan, minutes: &[u16], base: Price) -> [Price; 65]
+fn first_prices<B: Book>(book: &B, plan: &Plan, minutes: &[u16; 65], base: Price) -> [Price; 65]
     requires { Timed (B.meaning book.now) B.Cost.Amount.le plan.now minutes.now × Floor (B.meaning book.now) B.Cost.Amount.le (settings plan.now) (at minutes.now) base }
     ensures { FairUp (B.meaning book.now) B.Cost.Amount.le (settings plan.now) (at minutes.now) (B.meaning book.now).legs result }
 {
     book.keeps_laws();
     let mut prices = [base; 65];
+    // by index: after `iter_mut` nothing is known of the elements
     for k in 0..book.legs() {
         prices[k + 1] = first_price(book, plan, minutes, base, k + 1);
     }
     prices
 }
 
+// When each of the first `legs` stops is reached.
+fn arrivals(minutes: &[u16; 65], legs: usize) -> [usize; 65]
+    requires { legs < 65 }
+    ensures { (k : ℕ) → k ≤ legs → slice_index result k ≡ reached (at minutes.now) k }
+{
+    let mut arrivals = [0; 65];
+    // by index: each is made of the one before it
+    for k in 0..legs {
+        arrivals[k + 1] = arrivals[k] + minutes[k + 1] as usize;
+    }
+    arrivals
+}
+
 // Carries prices to the right over every stop that is reached after its window opens: no price falls there.
-fn carry_right<B: Book>(book: &B, plan: &Plan, minutes: &[u16], prices: &mut [Price])
-    requires { (length minutes.now ≡ 65) × (length prices.old ≡ 65) × FairUp (B.meaning book.now) B.Cost.Amount.le (settings plan.now) (at minutes.now) (B.meaning book.now).legs prices.old }
+fn carry_right<B: Book>(book: &B, plan: &Plan, minutes: &[u16; 65], prices: &mut [Price; 65])
+    requires { FairUp (B.meaning book.now) B.Cost.Amount.le (settings plan.now) (at minutes.now) (B.meaning book.now).legs prices.old }
     ensures fair { FairUp (B.meaning book.now) B.Cost.Amount.le (settings plan.now) (at minutes.now) (B.meaning book.now).legs prices.new }
     ensures rises { (k : ℕ) → 1 ≤ k → k < (B.meaning book.now).legs → Rises (B.meaning book.now) B.Cost.Amount.le (settings plan.now) (at minutes.now) prices.new k }
 {
     book.keeps_laws();
     let legs = book.legs();
+    let arrivals = arrivals(minutes, legs);
+    // by index: each price is made of its neighbour's
     for k in 1..legs {
-        if (opening(plan, legs, k) as usize) < sum(minutes, k) {
+        if (plan.window(legs, k).lo as usize) < arrivals[k] {
             prices[k + 1] = greater(book, prices[k + 1], prices[k]);
         }
     }
 }
 
-// Carries prices to the left over every stop that is reached before its window shuts: no price rises there.
-fn carry_left<B: Book>(book: &B, plan: &Plan, minutes: &[u16], prices: &mut [Price])
-    requires fair { (length minutes.now ≡ 65) × (length prices.old ≡ 65) × FairUp (B.meaning book.now) B.Cost.Amount.le (settings plan.now) (at minutes.now) (B.meaning book.now).legs prices.old }
+// Carries prices to the left over every stop that is reached before its window shuts: no price rises there. Apart from the
+// carry to the right: it goes the other way, and it has to keep what that one has reached.
+fn carry_left<B: Book>(book: &B, plan: &Plan, minutes: &[u16; 65], prices: &mut [Price; 65])
+    requires fair { FairUp (B.meaning book.now) B.Cost.Amount.le (settings plan.now) (at minutes.now) (B.meaning book.now).legs prices.old }
     requires rises { (k : ℕ) → 1 ≤ k → k < (B.meaning book.now).legs → Rises (B.meaning book.now) B.Cost.Amount.le (settings plan.now) (at minutes.now) prices.old k }
     ensures fair { FairUp (B.meaning book.now) B.Cost.Amount.le (settings plan.now) (at minutes.now) (B.meaning book.now).legs prices.new }
     ensures rises { (k : ℕ) → 1 ≤ k → k < (B.meaning book.now).legs → Rises (B.meaning book.now) B.Cost.Amount.le (settings plan.now) (at minutes.now) prices.new k }
@@ -110,8 +137,10 @@ fn carry_left<B: Book>(book: &B, plan: &Plan, minutes: &[u16], prices: &mut [Pri
 {
     book.keeps_laws();
     let legs = book.legs();
+    let arrivals = arrivals(minutes, legs);
+    // by index: each price is made of its neighbour's
     for k in (1..legs).rev() {
-        if sum(minutes, k) < closing(plan, legs, k) as usize {
+        if arrivals[k] < plan.window(legs, k).hi as usize {
             prices[k] = greater(book, prices[k], prices[k + 1]);
         }
     }
@@ -121,7 +150,7 @@ fn carry_left<B: Book>(book: &B, plan: &Plan, minutes: &[u16], prices: &mut [Pri
 pub(crate) fn prices<B: Book>(
     book: &B,
     plan: &Plan,
-    minutes: &[u16],
+    minutes: &[u16; 65],
     steps: &mut [B::Cost],
 ) -> [Price; 65]
     requires { Timed (B.meaning book.now) B.Cost.Amount.le plan.now minutes.now }

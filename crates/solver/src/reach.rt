@@ -1,99 +1,88 @@
 // When each stop can be reached: whether there is a timing, and where nothing is left.
-ghost use Rattle.std.specs.Prelude.{◌≡◌, ℕ, ◌<◌, ◌≤◌, MatchResult};
-ghost use Rattle.optimum.specs.Rotation.{earliest, latest};
+ghost use Rattle.std.specs.Prelude.{◌≡◌, ℕ, ◌+◌, ◌-◌, ◌^◌, ◌<◌, ◌≤◌, min, max, MatchResult};
 ghost use Rattle.optimum.specs.Method.{Reach, Between};
-ghost use Rattle.solver.specs.Plans.{at, settings, First, Small, Clipped};
+ghost use Rattle.solver.specs.Outcomes.{Blocked};
+ghost use Rattle.solver.specs.Plans.{los, his, settings, Small, Clipped};
 
+use crate::fault::PlanFault;
 use crate::plan::Plan;
+use books::Ends;
 
-// For each stop the earliest and the latest minute at which it can be reached.
-#[derive(Clone, Copy)]
-pub struct Span {
-    pub early: [u16; 65],
-    pub late: [u16; 65],
-}
-
-// For each leg the fewest and the most minutes that are still open to it.
-#[derive(Clone, Copy)]
-pub struct Limits {
-    pub low: [u16; 65],
-    pub high: [u16; 65],
-}
-
-// The start of the window of a stop; the total is the window of the last stop.
-pub(crate) fn opening(plan: &Plan, legs: usize, stop: usize) -> u16
-    requires { stop < 65 }
-    ensures { result ≡ earliest legs (settings plan.now) stop }
+// The minutes that lie in both ranges.
+fn both(a: Ends, b: Ends) -> Ends
+    ensures { (result.lo ≡ max a.lo b.lo) × (result.hi ≡ min a.hi b.hi) }
 {
-    if stop == legs {
-        plan.total
-    } else {
-        plan.opens[stop]
+    Ends {
+        lo: a.lo.max(b.lo),
+        hi: a.hi.min(b.hi),
     }
 }
 
-// The end of the window of a stop.
-pub(crate) fn closing(plan: &Plan, legs: usize, stop: usize) -> u16
-    requires { stop < 65 }
-    ensures { result ≡ latest legs (settings plan.now) stop }
+// The sums of minutes of two ranges.
+fn plus(a: Ends, b: Ends) -> Ends
+    requires { (a.lo + b.lo < 2 ^ 16) × (a.hi + b.hi < 2 ^ 16) }
+    ensures { (result.lo ≡ a.lo + b.lo) × (result.hi ≡ a.hi + b.hi) }
 {
-    if stop == legs {
-        plan.total
-    } else {
-        plan.shuts[stop]
+    Ends {
+        lo: a.lo + b.lo,
+        hi: a.hi + b.hi,
     }
 }
 
-// Goes forward over the legs: for each stop the earliest and the latest minute at which legs that keep their bounds and
-// windows so far can reach it; or the first leg at which nothing is left.
-pub(crate) fn forward(plan: &Plan, legs: usize) -> Result<Span, u8>
-    requires legs_bound { legs < 65 }
+// The minutes that lie between one of `b` and one of `a`.
+fn between(a: Ends, b: Ends) -> Ends
+    ensures { (result.lo ≡ a.lo - b.hi) × (result.hi ≡ a.hi - b.lo) }
+{
+    Ends {
+        lo: a.lo.saturating_sub(b.hi),
+        hi: a.hi.saturating_sub(b.lo),
+    }
+}
+
+// Goes forward over the legs: for each stop the minutes from the earliest to the latest at which legs that keep their bounds
+// and windows so far can reach it; or the first leg at which nothing is left.
+pub(crate) fn forward(plan: &Plan, legs: usize) -> Result<[Ends; 65], PlanFault>
+    requires few { legs < 65 }
     requires small { Small legs (settings plan.now) }
-    ensures { MatchResult result (λ span. (k : ℕ) → k ≤ legs → Reach legs (settings plan.now) k (at span.early k) (at span.late k)) (λ leg. First legs (settings plan.now) leg) }
+    ensures { MatchResult result (λ spans. (k : ℕ) → k ≤ legs → Reach legs (settings plan.now) k (los spans k) (his spans k)) (λ fault. Blocked legs (settings plan.now) fault) }
 {
-    let mut early = [0; 65];
-    let mut late = [0; 65];
+    let mut spans = [Ends { lo: 0, hi: 0 }; 65];
+    // by index: each span is made of the one before it
     for k in 0..legs {
         let stop = k + 1;
-        let e = opening(plan, legs, stop).max(early[k] + plan.low[stop]);
-        let f = closing(plan, legs, stop).min(late[k] + plan.high[stop]);
-        if f < e {
-            return Err(stop as u8);
+        let window = plan.window(legs, stop);
+        let span = both(window, plus(spans[k], plan.bounds[stop]));
+        if span.hi < span.lo {
+            return Err(PlanFault::Stuck { leg: stop as u8 });
         }
-        early[stop] = e;
-        late[stop] = f;
+        spans[stop] = span;
     }
-    Ok(Span { early, late })
+    Ok(spans)
 }
 
 // Goes back from the total: narrows each span to what the stops behind it leave.
-pub(crate) fn backward(plan: &Plan, legs: usize, span: Span) -> Span
-    requires legs_bound { legs < 65 }
-    requires between { Between legs (settings plan.now) (at span.early) (at span.late) }
-    ensures { Between legs (settings plan.now) (at result.early) (at result.late) }
+pub(crate) fn backward(plan: &Plan, legs: usize, mut spans: [Ends; 65]) -> [Ends; 65]
+    requires few { legs < 65 }
+    requires between { Between legs (settings plan.now) (los spans) (his spans) }
+    ensures { Between legs (settings plan.now) (los result) (his result) }
 {
-    let mut early = span.early;
-    let mut late = span.late;
+    // by index: each span is narrowed by the one behind it
     for k in (0..legs).rev() {
-        let leg = k + 1;
-        early[k] = early[k].max(early[leg].saturating_sub(plan.high[leg]));
-        late[k] = late[k].min(late[leg].saturating_sub(plan.low[leg]));
+        spans[k] = both(spans[k], between(spans[k + 1], plan.bounds[k + 1]));
     }
-    Span { early, late }
+    spans
 }
 
 // The bounds of the legs, clipped to what the spans of the stops leave of them.
-pub(crate) fn clip(plan: &Plan, legs: usize, span: Span) -> Limits
-    requires legs_bound { legs < 65 }
-    requires between { Between legs (settings plan.now) (at span.early) (at span.late) }
-    ensures { Clipped legs legs (settings plan.now) (at result.low) (at result.high) }
+pub(crate) fn clip(plan: &Plan, legs: usize, spans: &[Ends; 65]) -> [Ends; 65]
+    requires few { legs < 65 }
+    requires between { Between legs (settings plan.now) (los spans.now) (his spans.now) }
+    ensures { Clipped legs legs (settings plan.now) (los result) (his result) }
 {
-    let mut low = [0; 65];
-    let mut high = [0; 65];
+    let mut ranges = [Ends { lo: 0, hi: 0 }; 65];
+    // by index: after `iter_mut` nothing is known of the elements
     for k in 0..legs {
-        let leg = k + 1;
-        low[leg] = plan.low[leg].max(span.early[leg].saturating_sub(span.late[k]));
-        high[leg] = plan.high[leg].min(span.late[leg].saturating_sub(span.early[k]));
+        ranges[k + 1] = both(plan.bounds[k + 1], between(spans[k + 1], spans[k]));
     }
-    Limits { low, high }
+    ranges
 }

@@ -1,5 +1,5 @@
 -- What a sheet did, put as the register's answer. Assumes nothing.
-use Rattle.std.proofs.Common.{◌≡◌, ℕ, refl, inl}
+use Rattle.std.proofs.Common.{◌≡◌, ℕ, Err, refl, inl}
 use Rattle.amounts.specs.Rows.{Row}
 use Rattle.board.specs.Rules.{Clear, Broken}
 use Rattle.board.specs.declared.Refusal.{Refusal}
@@ -7,9 +7,13 @@ use Rattle.board.proofs.Boards.{broken_front, broken_back, clear_both}
 use Rattle.books.specs.Meaning.{Meaning}
 use Rattle.optimum.specs.Rotation.{Cheapest, cost_of_timing}
 use Rattle.optimum.proofs.Reach.{keeps_less}
-use Rattle.solver.specs.Plans.{First}
-use Rattle.register.specs.Faults.{row}
-use Rattle.register.specs.Register.{Register, standing, Areas, after, Times, entry_rows, timing_rows, refused, granted, Answered}
+use Rattle.solver.specs.Outcomes.{Solves}
+use Rattle.solver.specs.Plans.{Lawful, First}
+use Rattle.solver.specs.declared.fault.PlanFault.{PlanFault}
+use Rattle.solver.specs.declared.fault.PlanFault.TheVariants.{Stuck, Unlawful}
+use Rattle.register.specs.Faults.{row, told, timeless}
+use Rattle.register.specs.Register.{Register, standing, after, Times, entry_rows, timing_rows, refused, granted, Answered}
+use Rattle.register.specs.declared.areas.Areas.{Areas}
 use Rattle.register.specs.declared.call.Call.{Call}
 
 module _ {le : Row → Row → Type 0} (b : Meaning) (r : Register) (call : Call) (areas : Areas) where
@@ -27,6 +31,11 @@ module _ {le : Row → Row → Type 0} (b : Meaning) (r : Register) (call : Call
           refl,
         );
       }
+
+  -- the solver has none for settings that fit
+  pub answered_unsolved : (fault : PlanFault) → Clear (entry_rows b r call areas) → Times call → Lawful b (after b r call) → Solves b le (after b r call) (Err fault) → Answered b le r call areas (refused (told (timeless fault))) r
+  answered_unsolved (Stuck k) clear times fit solves = answered_stuck k clear times solves.1
+  answered_unsolved Unlawful clear times fit solves = absurd (solves fit)
 
   -- a cheapest timing stands
   pub answered_granted : (r' : Register) (x : ℕ → ℕ) (cost : Row) → Clear (entry_rows b r call areas) → Times call → Cheapest b le (after b r call) x → cost ≡ cost_of_timing b x → r' ≡ standing (after b r call) → Answered b le r call areas (granted cost) r'

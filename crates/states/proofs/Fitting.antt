@@ -1,23 +1,21 @@
 -- The settings that an admitted call leaves fit the book. Assumes nothing.
-use Rattle.std.proofs.Common.{◌≡◌, ℕ, ◌<◌, ◌≤◌, Bool, true, false, ◌≢◌, ◌⊎◌, sym, refl, subst, inl, inr, ⊎_elim, arith}
+use Rattle.std.proofs.Common.{◌≡◌, ℕ, ◌<◌, ◌≤◌, Some, None, Option, IfSome, ◌≢◌, ◌⊎◌, sym, subst, inl, inr, ⊎_elim, arith}
 use native.Mathlib.Decide.{dec_le}
 use Rattle.std.proofs.lemmas.Bool.{cases_eq}
-use Rattle.std.proofs.lemmas.Bool.Decides.{nat_tests}
 use Rattle.board.specs.Rules.{Clear}
 use Rattle.books.specs.Meaning.{Meaning, Shaped}
 use Rattle.optimum.specs.Rotation.{Settings, put}
 use Rattle.optimum.proofs.Sums.{put_same, put_other}
 use Rattle.solver.specs.Plans.{Lawful}
-use Rattle.register.specs.Register.{Register, blank, standing, Areas, legwise, opened, with_bounds, with_window, with_total, after, Times, entry_rows}
+use Rattle.register.specs.Register.{Register, blank, standing, opened, with_bounds, with_window, with_total, after, Times, entry_rows}
+use Rattle.register.specs.declared.areas.Areas.{Areas}
 use Rattle.amounts.specs.Rows.{Row}
-use Rattle.states.specs.States.{settings_of, register, reading, Sound}
+use Rattle.states.proofs.Settled.{legwise-leg}
+use Rattle.states.specs.States.{register, reading, Settled, Sound}
+use Rattle.states.specs.declared.standing.Standing.{Standing}
 use Rattle.states.specs.declared.state.State.{State}
 use Rattle.register.specs.declared.call.Call.{Call}
 use Rattle.register.specs.declared.call.Call.TheVariants.{Open, Bounds, Window, Lift, Total, Close}
-
-pub legwise-leg : (n : ℕ) (f : ℕ → ℕ) (i : ℕ) → 1 ≤ i → i ≤ n → legwise n f i ≡ f i
-unfolding legwise
-legwise-leg n f i low high = grind (arith, nat_tests)
 
 -- two numbers at j, after both were put at i
 after-put : (P : ℕ → ℕ → Type 0) (f g : ℕ → ℕ) (i v w j : ℕ) → (j ≡ i → P v w) → (j ≢ i → P (f j) (g j)) → P (put f i v j) (put g i w j)
@@ -92,9 +90,9 @@ module _ (b : Meaning) where
   fits_after shape (standing s) Close areas fit clear times = absurd times
 
 -- the register that a sound state is read as
-fitting_bit : (b : Meaning) (bit : Bool) (s : Settings) → (bit ≡ true → Lawful b s) → Fitting b (register bit s)
-fitting_bit b true s fit = fit refl
-fitting_bit b false s fit = tt
+fitting_in : (b : Meaning) (le : Row → Row → Type 0) (o : Option Standing) → IfSome o (Settled b le) → Fitting b (register o)
+fitting_in b le None settled = tt
+fitting_in b le (Some s) settled = settled.lawful
 
 pub fitting : {b : Meaning} {le : Row → Row → Type 0} {st : State} → Sound b le st → Fitting b (reading st)
-fitting {b} {st} sound = fitting_bit b st.standing (settings_of st) sound.lawful
+fitting {b} {le} {st} sound = fitting_in b le st.standing sound.settled

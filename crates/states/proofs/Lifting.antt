@@ -1,5 +1,5 @@
 -- A lift leaves the timing that stands. Assumes nothing.
-use Rattle.std.proofs.Common.{◌≡◌, ℕ, ◌≤◌, Bool, true, false, IfErr, Ok, Err, Result, sym, refl, ap, ◌∙◌, ⊎_elim, arith}
+use Rattle.std.proofs.Common.{◌≡◌, ℕ, ◌≤◌, Some, None, Option, IfSome, IfErr, Ok, Err, Result, sym, ap, ◌∙◌, ⊎_elim, arith}
 use Rattle.std.proofs.lemmas.Bool.Decides.{nat_tests}
 use Rattle.amounts.specs.Rows.{Row}
 use Rattle.board.specs.Rules.{Clear, Broken}
@@ -9,13 +9,15 @@ use Rattle.books.specs.Meaning.{Meaning}
 use Rattle.optimum.specs.Rotation.{Settings, put, reached, earliest, latest, Timing}
 use Rattle.optimum.proofs.Reach.{keeps_less, latest_last}
 use Rattle.optimum.proofs.Sums.{reached_onward}
-use Rattle.solver.specs.Plans.{Lawful}
+use Rattle.solver.specs.Plans.{at, settings}
 use Rattle.register.specs.Faults.{row, told}
-use Rattle.register.specs.Register.{Register, Areas, with_window, entry_rows, timing_rows, Timeless, Answered}
+use Rattle.register.specs.Register.{Register, with_window, entry_rows, timing_rows, Timeless, Answered}
+use Rattle.register.specs.declared.areas.Areas.{Areas}
 use Rattle.register.specs.Replies.{timed}
-use Rattle.states.specs.States.{register, reading, settings_of, minutes_of, Sound}
+use Rattle.states.specs.States.{register, reading, Settled, Sound}
 use Rattle.register.specs.declared.call.Call.TheVariants.{Lift}
 use Rattle.register.specs.declared.fault.SheetFault.{SheetFault}
+use Rattle.states.specs.declared.standing.Standing.{Standing}
 use Rattle.states.specs.declared.state.State.{State}
 
 -- a lifted window is wider
@@ -39,10 +41,12 @@ lifted n s x k day timing =
     }
 
 -- on a sheet that stands, no leg is left without minutes by a lift
-lift_free : (b : Meaning) (bit : Bool) (s : Settings) (x : ℕ → ℕ) (k : ℕ) (areas : Areas) → (bit ≡ true → Lawful b s) → (bit ≡ true → Timing b.legs s x) → Clear (entry_rows b (register bit s) (Lift k) areas) → (j : ℕ) → Timeless b (register bit s) (Lift k) j → ⊥
-lift_free b true s x k areas fit timing clear j timeless =
-    timeless.2 x (keeps_less b.legs (with_window k 0 4095 s) x j b.legs timeless.1.1 (lifted b.legs s x k (fit refl).day (timing refl)))
-lift_free b false s x k areas fit timing clear j timeless = clear.1.0 ((λ none. none), (λ none. none))
+lift_free : (b : Meaning) (le : Row → Row → Type 0) (o : Option Standing) (k : ℕ) (areas : Areas) → IfSome o (Settled b le) → Clear (entry_rows b (register o) (Lift k) areas) → (j : ℕ) → Timeless b (register o) (Lift k) j → ⊥
+lift_free b le None k areas settled clear j timeless = clear.1.0 ((λ none. none), (λ none. none))
+lift_free b le (Some s) k areas settled clear j timeless =
+    let wide = with_window k 0 4095 (settings s.plan) in
+    let x = at s.found.minutes in
+    timeless.2 x (keeps_less b.legs wide x j b.legs timeless.1.1 (lifted b.legs (settings s.plan) x k settled.lawful.day settled.cheapest.timing))
 
 -- no row that is looked at first has the number 16
 module _ (why : Refusal) (sixteen : why.number ≡ 16) where
@@ -62,7 +66,7 @@ lift_opens row b st k areas r' (Err f) sound answered =
     (entry_number (told f) sixteen b (reading st) k areas)
     (λ behind.
     ⊎_elim
-    (λ stuck. lift_free b st.standing (settings_of st) (minutes_of st) k areas sound.lawful (λ e. (sound.cheapest e).timing) behind.0 stuck.0 stuck.1)
+    (λ stuck. lift_free b _ st.standing k areas sound.settled behind.0 stuck.0 stuck.1)
     (λ past. past.1)
     behind.1)
     (broken_split (entry_rows b (reading st) (Lift k) areas) (timing_rows b (reading st) (Lift k)) (told f) answered.answer.0)

@@ -1,6 +1,5 @@
 -- The sum over the legs, one leg after the other. Assumes nothing.
-use Rattle.std.proofs.Common.{◌≡◌, ℕ, ◌+◌, ◌-◌, ◌<◌, ◌≤◌, List, length, get_or, take, drop, Some, None, Option, sym, ap, ◌∙◌, subst, ap₂, arith, MatchOption}
-use Rattle.std.proofs.lemmas.List.{get_or-take, get_or-drop}
+use Rattle.std.proofs.Common.{◌≡◌, ℕ, ◌+◌, ◌-◌, ◌<◌, ◌≤◌, List, length, get_or, Some, None, Option, sym, ap, ◌∙◌, subst, ap₂, arith, MatchOption}
 use Rattle.amounts.specs.Rows.{Row, plus, InRange}
 use Rattle.books.specs.Meaning.{Meaning, Priced, Ranged, Shaped}
 use Rattle.optimum.specs.Rotation.{spent, cost_of_timing}
@@ -27,14 +26,13 @@ module _ (b : Meaning) (ms : List ℕ) (k : ℕ) where
       (λ i low high. let p = all i low (omega arith) in (p.1, p.2))
 
 -- the cost of a list that holds the minutes of every leg is the cost of the timing
-module _ {A : Type 0} (row : A → Row) (b : Meaning) (ms qs : List ℕ) (long : length qs ≡ b.legs) (same : (i : ℕ) → 1 ≤ i → i ≤ b.legs → flown qs i ≡ at ms i) where
-  pub timing_costs : (r : Option A) → MatchOption r (AllPriced b qs → ⊥) (λ a. AllPriced b qs × (row a ≡ spent b (flown qs) (length qs))) → MatchOption r (Affordable b (at ms) → ⊥) (λ a. row a ≡ cost_of_timing b (at ms))
-  timing_costs None absent = λ all. absent (λ i low high. subst (Priced b i) (sym (same i low (omega arith))) (all i (low, omega arith)))
-  timing_costs (Some a) found = found.1 ∙ ap (spent b (flown qs)) long ∙ spent_same b (flown qs) (at ms) b.legs same
+module _ {A : Type 0} (row : A → Row) (b : Meaning) (ms qs : List ℕ) (long : length qs ≡ b.legs) (same : (k : ℕ) → k < b.legs → get_or qs k 0 ≡ at ms (k + 1)) where
+  flown_same : (i : ℕ) → 1 ≤ i → i ≤ b.legs → flown qs i ≡ at ms i
+  flown_same i low high =
+      let within : i - 1 < b.legs = omega arith in
+      let place : i - 1 + 1 ≡ i = omega arith in
+      same (i - 1) within ∙ ap (at ms) place
 
--- the slice of an array from place 1 to n
-pub slice_flown : (ms : List ℕ) (n i : ℕ) → 1 ≤ i → i ≤ n → flown (take (n + 1 - 1) (drop 1 ms)) i ≡ at ms i
-slice_flown ms n i low high =
-    let within : i - 1 < n + 1 - 1 = omega arith in
-    let place : 1 + (i - 1) ≡ i = omega arith in
-    get_or-take (n + 1 - 1) (drop 1 ms) (i - 1) 0 within ∙ get_or-drop 1 ms (i - 1) 0 ∙ ap (at ms) place
+  pub timing_costs : (r : Option A) → MatchOption r (AllPriced b qs → ⊥) (λ a. AllPriced b qs × (row a ≡ spent b (flown qs) (length qs))) → MatchOption r (Affordable b (at ms) → ⊥) (λ a. row a ≡ cost_of_timing b (at ms))
+  timing_costs None absent = λ all. absent (λ i low high. subst (Priced b i) (sym (flown_same i low (omega arith))) (all i (low, omega arith)))
+  timing_costs (Some a) found = found.1 ∙ ap (spent b (flown qs)) long ∙ spent_same b (flown qs) (at ms) b.legs flown_same

@@ -1,8 +1,7 @@
-// The cost of a timing: the sum over the legs.
+// The cost of minutes in a list: the sum over the legs.
 ghost use Rattle.std.specs.Prelude.{◌≡◌, length, MatchOption};
-ghost use Rattle.optimum.specs.Rotation.{spent, cost_of_timing};
-ghost use Rattle.solver.specs.Plans.{at};
-ghost use Rattle.states.specs.Costs.{flown, AllPriced, Affordable};
+ghost use Rattle.optimum.specs.Rotation.{spent};
+ghost use Rattle.states.specs.Costs.{flown, AllPriced};
 
 use amounts::Amount;
 use books::Book;
@@ -18,13 +17,4 @@ pub(crate) fn cost_of<B: Book>(book: &B, minutes: &[u16]) -> Option<B::Cost>
         total = total.checked_add(cost)?;
     }
     Some(total)
-}
-
-// What a timing costs, its minutes by the number of the leg: the sum over the slice of its minutes, from leg 1 to the last.
-pub(crate) fn timing_cost<B: Book>(book: &B, minutes: &[u16]) -> Option<B::Cost>
-    requires { length minutes.now ≡ 65 }
-    ensures { MatchOption result (Affordable (B.meaning book.now) (at minutes.now) → ⊥) (λ a. B.Cost.Amount.row a ≡ cost_of_timing (B.meaning book.now) (at minutes.now)) }
-{
-    book.keeps_laws();
-    cost_of(book, &minutes[1..book.legs() + 1])
 }

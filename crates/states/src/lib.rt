@@ -5,6 +5,8 @@ mod apply;
 mod cost;
 mod plans;
 mod rows;
+mod standing;
 mod state;
 
+pub use standing::Standing;
 pub use state::State;

@@ -1,56 +1,50 @@
 // The plans that calls leave.
 ghost use Rattle.std.specs.Prelude.{◌≡◌, ◌<◌};
 ghost use Rattle.solver.specs.Plans.{settings};
-ghost use Rattle.register.specs.Register.{opened, with_bounds, with_window, with_total};
+ghost use Rattle.register.specs.Register.{opened, with_bounds, with_window};
 
-use books::Book;
+use books::{Book, Ends, LAST_MINUTE};
 use solver::Plan;
+
+// What stands in the place of bounds where there is no leg.
+const NO_LEG: Ends = Ends { lo: 0, hi: 0 };
+
+// The window of a stop that no window is set for.
+pub(crate) const FREE: Ends = Ends {
+    lo: 0,
+    hi: LAST_MINUTE,
+};
 
 // The plan of an open: the book's ends as bounds, and every window 0 to 4,095.
 pub(crate) fn opened_plan<B: Book>(book: &B, total: u16) -> Plan
     ensures { settings result ≡ opened (B.meaning book.now) total }
 {
     book.keeps_laws();
-    let mut low = [0; 65];
-    let mut high = [0; 65];
-    for k in 0..book.legs() {
-        let ends = book.ends(k + 1).unwrap();
-        low[k + 1] = ends.lo;
-        high[k + 1] = ends.hi;
+    let mut bounds = [NO_LEG; 65];
+    for (leg, place) in bounds.iter_mut().enumerate() {
+        *place = book.ends(leg).unwrap_or(NO_LEG);
     }
     Plan {
         total,
-        low,
-        high,
-        opens: [0; 65],
-        shuts: [4095; 65],
+        bounds,
+        windows: [FREE; 65],
     }
 }
 
 // The plan with other bounds of a leg.
-pub(crate) fn set_bounds(mut plan: Plan, leg: usize, low: u16, high: u16) -> Plan
+pub(crate) fn set_bounds(mut plan: Plan, leg: usize, bounds: Ends) -> Plan
     requires { leg < 65 }
-    ensures { settings result ≡ with_bounds leg low high (settings plan) }
+    ensures { settings result ≡ with_bounds leg bounds.lo bounds.hi (settings plan) }
 {
-    plan.low[leg] = low;
-    plan.high[leg] = high;
+    plan.bounds[leg] = bounds;
     plan
 }
 
 // The plan with another window of a stop.
-pub(crate) fn set_window(mut plan: Plan, stop: usize, low: u16, high: u16) -> Plan
+pub(crate) fn set_window(mut plan: Plan, stop: usize, window: Ends) -> Plan
     requires { stop < 65 }
-    ensures { settings result ≡ with_window stop low high (settings plan) }
+    ensures { settings result ≡ with_window stop window.lo window.hi (settings plan) }
 {
-    plan.opens[stop] = low;
-    plan.shuts[stop] = high;
-    plan
-}
-
-// The plan with another total.
-pub(crate) fn set_total(mut plan: Plan, total: u16) -> Plan
-    ensures { settings result ≡ with_total total (settings plan) }
-{
-    plan.total = total;
+    plan.windows[stop] = window;
     plan
 }

@@ -2,14 +2,14 @@
 ghost use Rattle.amounts.specs.Orders.{Tells};
 ghost use Rattle.register.specs.Register.{Opens, Elsewhere, Crossed, TooLarge, Outside, Times};
 
-use books::Book;
+use books::{Book, LAST_MINUTE};
 use register::Call;
 
 // Whether the call is an open.
 pub(crate) fn opens(call: Call) -> bool
     ensures { Tells result (Opens call) }
 {
-    matches!(call, Call::Open { total: _ })
+    matches!(call, Call::Open { .. })
 }
 
 // Whether the call puts a timing on the sheet.
@@ -25,20 +25,10 @@ pub(crate) fn elsewhere<B: Book>(book: &B, call: Call) -> bool
 {
     let legs = book.legs();
     match call {
-        Call::Open { total: _ } => legs == 0,
-        Call::Bounds {
-            leg,
-            low: _,
-            high: _,
-        } => leg == 0 || leg as usize > legs,
-        Call::Window {
-            stop,
-            low: _,
-            high: _,
-        } => stop == 0 || stop as usize >= legs,
-        Call::Lift { stop } => stop == 0 || stop as usize >= legs,
-        Call::Total { total: _ } => false,
-        Call::Close => false,
+        Call::Open { .. } => legs == 0,
+        Call::Bounds { leg, .. } => leg == 0 || leg as usize > legs,
+        Call::Window { stop, .. } | Call::Lift { stop } => stop == 0 || stop as usize >= legs,
+        _ => false,
     }
 }
 
@@ -47,12 +37,8 @@ pub(crate) fn crossed(call: Call) -> bool
     ensures { Tells result (Crossed call) }
 {
     match call {
-        Call::Bounds { leg: _, low, high } => low > high,
-        Call::Window { stop: _, low, high } => low > high,
-        Call::Open { total: _ } => false,
-        Call::Lift { stop: _ } => false,
-        Call::Total { total: _ } => false,
-        Call::Close => false,
+        Call::Bounds { low, high, .. } | Call::Window { low, high, .. } => low > high,
+        _ => false,
     }
 }
 
@@ -61,12 +47,10 @@ pub(crate) fn too_large(call: Call) -> bool
     ensures { Tells result (TooLarge call) }
 {
     match call {
-        Call::Open { total } => total > 4095,
-        Call::Bounds { leg: _, low, high } => low > 4095 || high > 4095,
-        Call::Window { stop: _, low, high } => low > 4095 || high > 4095,
-        Call::Lift { stop: _ } => false,
-        Call::Total { total } => total > 4095,
-        Call::Close => false,
+        Call::Open { total } | Call::Total { total } => total > LAST_MINUTE,
+        Call::Bounds { low, high, .. } | Call::Window { low, high, .. } => low > LAST_MINUTE
+            || high > LAST_MINUTE,
+        _ => false,
     }
 }
 

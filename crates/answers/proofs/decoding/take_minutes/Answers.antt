@@ -1,26 +1,17 @@
-use Rattle.std.proofs.Common.{ℕ, ◌+◌, ◌*◌, ◌<◌, List, length, take, drop, sym, ap, ◌∙◌, subst, arith, rules}
-use Rattle.std.specs.List.{AllByRecursion}
-use Rattle.std.proofs.ByRecursion.{All-push}
-use Rattle.std.proofs.lemmas.List.{take_more_set}
-use Rattle.hexadecimal.proofs.Digits.{rest_more}
-use Rattle.answers.specs.Spelling.{words}
-use Rattle.answers.proofs.Bytes.{words_push}
-use Rattle.answers.proofs.Places.{word_at}
+use Rattle.std.proofs.Common.{ℕ, ◌+◌, [], ◌∷◌, ◌++◌, List, get_or, map, take, drop, set, sym, ap, ◌∙◌, arith}
+use Rattle.std.specs.Int.{w16, from_be_bytes}
+use Rattle.std.proofs.lemmas.List.{append_assoc, drop_more, length-map, length-take-le, map_more, set_at}
 use Rattle.answers.proofs.decoding.take_minutes.Goals as goal
 
 pub loop-i-preserved : goal.loop-i-preserved
 loop-i-preserved c =
     let i : ℕ = c.loop-i.i in
     let n : ℕ = c.from_be_bytes.result in
-    let before : List ℕ = take i c.loop-i.minutes in
-    let rest : List ℕ = drop (2 * (i + 1)) c.args.fields.now in
-    let less : i < length c.loop-i.minutes = omega arith in
-    let more = take_more_set c.loop-i.minutes i n less in
-    let small : n < 65536 = search rules in (
-      c.loop-i.invariant.0
-          ∙ ap (words before) (word_at c.args.fields.now c.type_inv.fields i n (omega arith) c.from_be_bytes.ensures)
-          ∙ sym (words_push before n rest)
-          ∙ ap (λ ns. words ns rest) (sym more),
-      subst (AllByRecursion (λ m. m < 65536)) (sym more) (All-push (λ m. m < 65536) before n c.loop-i.invariant.1 small),
-      rest_more c.loop-i.minutes c.args.minutes.now i n c.loop-i.invariant.2,
-    )
+    let pairs : List (List ℕ) = c.args.pairs.now in
+    let rest : List ℕ = drop (i + 1) c.args.minutes.now in
+    let front : List ℕ = map (from_be_bytes w16) (take i pairs) in
+    let size = length-map (take i pairs) (from_be_bytes w16) ∙ length-take-le i pairs (omega arith) in
+    ap (λ ms. set ms i n) (c.loop-i.invariant ∙ ap (λ t. front ++ t) (drop_more c.args.minutes.now i 0 (omega arith)))
+    ∙ set_at front (get_or c.args.minutes.now i 0) rest n i size
+    ∙ sym (append_assoc front (n ∷ []) rest)
+    ∙ ap (λ ms. ms ++ rest) (ap (λ x. front ++ x ∷ []) c.from_be_bytes.ensures ∙ sym (map_more (from_be_bytes w16) pairs i [] (omega arith)))

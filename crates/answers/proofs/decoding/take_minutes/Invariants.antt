@@ -1,11 +1,7 @@
-use Rattle.std.proofs.Common.{◌≡◌, ◌*◌, ◌^◌, ◌<◌, take, drop}
-use Rattle.std.specs.List.{AllByRecursion}
-use Rattle.answers.specs.Spelling.{words}
+use Rattle.std.proofs.Common.{◌≡◌, ◌++◌, map, take, drop}
+use Rattle.std.specs.Int.{w16, from_be_bytes}
 use Rattle.answers.proofs.decoding.take_minutes.Given as goal
 
 -- the minutes so far are read, and the rest of the place is as it was
 abbrev pub invariant-loop-i : goal.invariant-loop-i
-invariant-loop-i l =
-    (l.fields ≡ words (take l.i l.minutes) (drop (2 * l.i) l.fields))
-    × AllByRecursion (λ m. m < 2 ^ 16) (take l.i l.minutes)
-    × (drop l.i l.minutes ≡ drop l.i l.initial.minutes)
+invariant-loop-i l = l.minutes ≡ map (from_be_bytes w16) (take l.i l.pairs) ++ drop l.i l.initial.minutes

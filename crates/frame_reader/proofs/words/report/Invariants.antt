@@ -5,7 +5,8 @@ use Rattle.frame_reader.specs.Words.{Reports}
 use Rattle.frame_reader.proofs.words.report.Given as goal
 
 -- whatever is said of the lines to come makes the report whole, and the number of the line is not past the text
-abbrev pub invariant-loop-line : goal.invariant-loop-line
-invariant-loop-line l =
-    ((rest : List ℕ) → Reports l.number (to_come l.line-iterator) rest → Reports 1 (lines_of l.text) (string_bytes l.all ++ rest))
-    × (l.number + length (to_come l.line-iterator) ≤ 1 + length l.text)
+abbrev pub invariant-loop-index : goal.invariant-loop-index
+invariant-loop-index l =
+    ((rest : List ℕ) → Reports (l.index-iterator.count + 1) (to_come l.index-iterator.iter) rest →
+    Reports 1 (lines_of l.text) (string_bytes l.all ++ rest))
+    × (l.index-iterator.count + length (to_come l.index-iterator.iter) ≤ length l.text)

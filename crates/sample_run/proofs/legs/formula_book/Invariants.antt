@@ -5,4 +5,4 @@ use Rattle.sample_run.proofs.legs.formula_book.Given as goal
 
 -- the legs so far
 abbrev pub invariant-loop : goal.invariant-loop
-invariant-loop l = LegsOf (formulas l.book.legs l.book.count) l.counter (leg l.q)
+invariant-loop l = LegsOf (formulas l.book.legs.items) l.counter (leg l.q)

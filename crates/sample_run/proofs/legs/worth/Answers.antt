@@ -10,7 +10,7 @@ use Rattle.sample_run.proofs.legs.worth.Goals as goal
 pub returns-then-price-eq0 : goal.returns-then-price-eq0
 returns-then-price-eq0 c =
     let book = c.args.book.now in
-    c.zero.ensures ∙ sym (worth-none (formulas book.legs book.count) c.args.price c.if-price-eq0.true)
+    c.zero.ensures ∙ sym (worth-none (formulas book.legs.items) c.args.price c.if-price-eq0.true)
 
 -- an exact answer in the range is there, and is what it is known to be
 there :
@@ -23,7 +23,7 @@ pub returns : goal.returns
 unfolding step
 returns c =
     let book = c.args.book.now in
-    let b = formulas book.legs book.count in
+    let b = formulas book.legs.items in
     let next : c.in_ok-checked_add.field-0 ≡ c.args.price.minute + 1 = c.in_ok-checked_add.ensures.1 in
     let after = simp next at c.in_ok-after.ensures in
     let before = c.in_ok-before.ensures in

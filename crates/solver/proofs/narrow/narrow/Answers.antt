@@ -1,36 +1,27 @@
-use Rattle.std.proofs.Common.{◌≡◌, ◌+◌, ◌-◌, ◌≤◌, ◌∙◌, subst, arith, rules}
-use Rattle.optimum.specs.Rotation.{reached, earliest}
-use Rattle.optimum.specs.Method.{Boxed}
-use Rattle.optimum.proofs.Box.{finish, settle}
-use Rattle.solver.specs.Plans.{at, settings}
+use Rattle.std.proofs.Common.{◌≡◌, ℕ, ◌+◌, ◌-◌, ◌<◌, ◌≤◌, length, get_or, sym, ◌∙◌, subst, arith, rules}
+use Rattle.optimum.specs.Rotation.{reached, earliest, Cheapest}
+use Rattle.optimum.proofs.Box as box
+use Rattle.optimum.proofs.Box.{finish}
+use Rattle.solver.specs.Plans.{los, settings}
+use Rattle.solver.proofs.Places.{los_are}
 use Rattle.solver.proofs.narrow.narrow.Goals as goal
+
+pub loop-done-preserved : goal.loop-done-preserved
+loop-done-preserved g c =
+    let b = g.B.Book.meaning c.args.book.now in
+    let s = settings c.args.plan.now in
+    let k = c.loop-done.done + 1 in
+    let early = subst (λ f. earliest b.legs s k ≤ reached f k) (sym c.settle-in-loop-done.ensures.rests) c.settle.ensures.settled in
+    (search rules, box.settle c.settle-in-loop-done.ensures.boxed early c.settle-in-loop-done.ensures.settled)
 
 pub returns : goal.returns
 returns g c =
     let b = g.B.Book.meaning c.args.book.now in
     let s = settings c.args.plan.now in
-    let low = c.raise-2.new.low in
+    let es = c.settle-2.new.ranges in
     let e : c.legs-last.result - 1 + 1 ≡ b.legs = omega arith in
-    finish c.raise-2.ensures.0 (subst (λ k. earliest b.legs s k ≤ reached (at low) k) e c.raise-2.ensures.1) c.requires.bound.0
-
-pub loop-done-preserved : goal.loop-done-preserved
-loop-done-preserved g c =
-    (c.raise.auto.low ∙ c.loop-done.invariant.0, c.lower.auto.high ∙ c.loop-done.invariant.1, settle c.lower.ensures.0 c.raise.ensures.1 c.lower.ensures.1)
-
-pub raise-requires : goal.raise-requires
-raise-requires g c = let inv = c.loop-done.invariant in record { done_bound = (omega arith, inv.0, inv.1); fits = (c.requires.bound.1, inv.2) }
-
-pub lower-requires : goal.lower-requires
-lower-requires g c = let inv = c.loop-done.invariant in record { done_bound = (omega arith, c.raise.auto.low ∙ inv.0, inv.1); fits = (c.requires.bound.1, c.raise.ensures.0) }
-
-pub loop-done-init : goal.loop-done-init
-loop-done-init g c = (search rules, search rules, c.requires.boxed)
-
-pub raise-requires-2 : goal.raise-requires-2
-raise-requires-2 g c =
-    let inv = c.loop-done.invariant in
-    let all : c.loop-done.done ≡ c.legs-last.result - 1 = omega arith in
-    record {
-      done_bound = (omega arith, inv.0, inv.1);
-      fits = (c.requires.bound.1, subst (Boxed (g.B.Book.meaning c.args.book.now) g.B.Cost.Amount.le (settings c.args.plan.now) (at c.loop-done.low) (at c.loop-done.high)) all inv.2);
-    }
+    let cheapest = finish c.settle-2.ensures.boxed (subst (λ k. earliest b.legs s k ≤ reached (los es) k) e c.settle-2.ensures.settled) c.requires.bound.0 in
+    let m = c.map.ensures.items in
+    let long : length c.map.result ≡ length es = m.long ∙ sym (search rules) in
+    let same : (k : ℕ) → k < length es → get_or c.map.result k 0 ≡ los es k = λ k low. let call = m.at k (record { lo = 0; hi = 0 }) 0 (omega arith) in search rules in
+    subst (Cheapest b g.B.Cost.Amount.le s) (sym (los_are es c.map.result long same)) cheapest

@@ -1,7 +1,7 @@
 use Rattle.std.proofs.Common.{◌≡◌, length}
 use Rattle.optimum.specs.Method.{Boxed}
-use Rattle.solver.specs.Plans.{at, settings}
+use Rattle.solver.specs.Plans.{los, his, settings}
 use Rattle.solver.proofs.narrow.narrow.Given as goal
 
 abbrev pub invariant-loop-done : goal.invariant-loop-done
-invariant-loop-done g l = (length l.low ≡ 65) × (length l.high ≡ 65) × Boxed (g.B.Book.meaning l.book) g.B.Cost.Amount.le (settings l.plan) (at l.low) (at l.high) l.done
+invariant-loop-done g l = (length l.ranges ≡ 65) × Boxed (g.B.Book.meaning l.book) g.B.Cost.Amount.le (settings l.plan) (los l.ranges) (his l.ranges) l.done

@@ -1,21 +1,13 @@
 use Rattle.std.proofs.Common.{◌+◌, ◌-◌, ◌<◌, subst, ⊎_elim, arith}
 use Rattle.std.proofs.lemmas.Bool.{cases_eq}
+use Rattle.std.proofs.lemmas.List.{length-set}
 use Rattle.optimum.specs.Rotation.{reached, latest}
 use Rattle.solver.specs.Plans.{at, settings}
 use Rattle.solver.proofs.Markup.{fair_left, fair_set, rises_left, falls_left}
 use Rattle.solver.proofs.pricing.carry_left.Goals as goal
 
-pub loop-k-init : goal.loop-k-init
-loop-k-init g c = let legs = c.legs-legs.ensures in (c.requires.fair.2, c.requires.rises, λ j low high. absurd (omega arith))
-
-pub greater-requires : goal.greater-requires
-greater-requires g c =
-    let legs = c.legs-legs.ensures in
-    let fair = c.loop-k.invariant.0 in
-    ((fair _ (omega arith) (omega arith)).named, (fair _ (omega arith) (omega arith)).named)
-
-pub loop-k-preserved-then-sum-closing : goal.loop-k-preserved-then-sum-closing
-loop-k-preserved-then-sum-closing g c =
+pub loop-k-preserved-then-arrivals-k : goal.loop-k-preserved-then-arrivals-k
+loop-k-preserved-then-arrivals-k g c =
     let b = g.B.Book.meaning c.args.book.now in
     let order = g.met.B.Cost.Amount.order in
     let s = settings c.args.plan.now in
@@ -25,11 +17,12 @@ loop-k-preserved-then-sum-closing g c =
     let r = c.greater.result in
     let inv = c.loop-k.invariant in
     let few = c.keeps_laws.ensures.shape.few in
-    let shuts = rw c.legs-legs.ensures at c.closing.ensures in
+    let shuts = rw c.legs-legs.ensures at c.window.ensures.1 in
     let loose : reached x k < latest b.legs s k = omega arith in (
       fair_set order b.legs k ps r (omega arith) (fair_left order k _ _ r (inv.0 k (omega arith) (omega arith)) (inv.0 (k + 1) (omega arith) (omega arith)) loose c.greater.ensures) inv.0,
       rises_left order b s x ps k r b.legs (omega arith) (omega arith) (omega arith) inv.1 c.greater.ensures,
       falls_left order b s x ps k r b.legs (omega arith) (λ j low high. inv.2 j (omega arith) high) c.greater.ensures,
+      simp length-set inv.3,
     )
 
 pub loop-k-preserved : goal.loop-k-preserved
@@ -38,7 +31,7 @@ loop-k-preserved g c =
     let s = settings c.args.plan.now in
     let x = at c.args.minutes.now in
     let inv = c.loop-k.invariant in
-    let shuts = rw c.legs-legs.ensures at c.closing.ensures in (
+    let shuts = rw c.legs-legs.ensures at c.window.ensures.1 in (
       inv.0,
       inv.1,
       λ j low high loose.
@@ -46,7 +39,5 @@ loop-k-preserved g c =
           (λ same. absurd (let h = subst (λ m. reached x m < latest b.legs s m) same loose in omega arith))
           (λ other. inv.2 j (omega arith) high loose)
           (cases_eq j (c.loop-k.k - 1)),
+      inv.3,
     )
-
-pub returns : goal.returns
-returns g c = let inv = c.loop-k.invariant in record { fair = inv.0; rises = inv.1; falls = λ k low high. inv.2 k (omega arith) high }

@@ -1,15 +1,9 @@
-use Rattle.std.proofs.Common.{sym, refl, subst, arith}
+use Rattle.std.proofs.Common.{sym, subst, arith}
 use Rattle.std.proofs.lemmas.List.{length-set}
 use Rattle.solver.specs.Plans.{at, settings}
 use Rattle.solver.specs.Pricing.{Fair}
 use Rattle.solver.proofs.Markup.{after_price}
 use Rattle.solver.proofs.pricing.first_prices.Goals as goal
-
-pub loop-k-init : goal.loop-k-init
-loop-k-init g c = (refl, λ i low high. absurd (omega arith))
-
-pub first_price-requires : goal.first_price-requires
-first_price-requires g c = ((omega arith, omega arith), c.requires.0, c.requires.1)
 
 pub loop-k-preserved : goal.loop-k-preserved
 loop-k-preserved g c =
@@ -23,6 +17,3 @@ loop-k-preserved g c =
           (λ same. subst (λ j. Fair b g.B.Cost.Amount.le s x j c.first_price.result) (sym same) c.first_price.ensures)
           (λ other. c.loop-k.invariant.1 i low (omega arith)),
     )
-
-pub returns : goal.returns
-returns g c = λ i low high. c.loop-k.invariant.1 i low (omega arith)

@@ -1,4 +1,4 @@
-use Rattle.std.proofs.Common.{arith}
+use Rattle.std.proofs.Common.{min, max, ◌∙◌, ap, arith}
 use Rattle.std.proofs.lemmas.List.{length-set}
 use Rattle.solver.specs.Plans.{settings}
 use Rattle.solver.proofs.Spans.{spans_back}
@@ -6,9 +6,10 @@ use Rattle.solver.proofs.reach.backward.Goals as goal
 
 pub loop-k-preserved : goal.loop-k-preserved
 loop-k-preserved c =
-    let inv = c.loop-k.invariant in (
+    let inv = c.loop-k.invariant in
+    let es = c.loop-k.spans in (
       simp length-set inv.0,
-      simp length-set inv.1,
-      spans_back c.args.legs (settings c.args.plan.now) c.loop-k.early c.loop-k.late _ _ _ (omega arith) (omega arith) (omega arith)
-          (cc) (cc) inv.2,
+      spans_back c.args.legs (settings c.args.plan.now) es _ c.both.result (omega arith) (omega arith)
+          (c.both.ensures.0 ∙ ap (max _) c.between.ensures.0)
+          (c.both.ensures.1 ∙ ap (min _) c.between.ensures.1) inv.1,
     )

@@ -1,7 +1,7 @@
 use Rattle.std.proofs.Common.{◌≡◌, length}
 use Rattle.optimum.specs.Method.{Between}
-use Rattle.solver.specs.Plans.{at, settings}
+use Rattle.solver.specs.Plans.{los, his, settings}
 use Rattle.solver.proofs.reach.backward.Given as goal
 
 abbrev pub invariant-loop-k : goal.invariant-loop-k
-invariant-loop-k l = (length l.early ≡ 65) × (length l.late ≡ 65) × Between l.legs (settings l.plan) (at l.early) (at l.late)
+invariant-loop-k l = (length l.spans ≡ 65) × Between l.legs (settings l.plan) (los l.spans) (his l.spans)

@@ -1,35 +1,24 @@
-use Rattle.std.proofs.Common.{◌≡◌, refl, ◌∙◌, subst, arith}
-use Rattle.std.proofs.lemmas.List.{length-set}
-use Rattle.std.proofs.lemmas.Option.{MatchOption-at_some}
-use Rattle.solver.specs.Plans.{at}
-use Rattle.register.specs.Register.{legwise}
-use Rattle.states.proofs.Settled.{same_settings, legwise-set, legwise-none, read_replicate}
+use Rattle.std.proofs.Common.{refl, ◌∙◌}
+use Rattle.books.specs.declared.Ends.{Ends}
+use Rattle.states.proofs.Settled.{same_settings, read_replicate, filled_none, filled_next, own_ends, filled_los, filled_his}
 use Rattle.states.proofs.plans.opened_plan.Goals as goal
 
-pub loop-k-init : goal.loop-k-init
-loop-k-init g c =
-    let b = g.B.Book.meaning c.args.book.now in
-    (refl, refl, read_replicate 65 0 ∙ legwise-none b.lo, read_replicate 65 0 ∙ legwise-none b.hi)
+pub loop-leg-init : goal.loop-leg-init
+loop-leg-init g c = filled_none (g.B.Book.meaning c.args.book.now)
 
-pub loop-k-preserved : goal.loop-k-preserved
-loop-k-preserved g c =
+pub loop-leg-preserved : goal.loop-leg-preserved
+loop-leg-preserved g c =
     let b = g.B.Book.meaning c.args.book.now in
-    let inv = c.loop-k.invariant in
-    let few = c.keeps_laws.ensures.shape.few in
-    let ends = MatchOption-at_some _ _ _ c.unwrap-ends.ensures c.ends.ensures in (
-      simp length-set inv.0,
-      simp length-set inv.1,
-      legwise-set c.loop-k.low c.loop-k.k b.lo _ (omega arith) ends.1 inv.2,
-      legwise-set c.loop-k.high c.loop-k.k b.hi _ (omega arith) ends.2 inv.3,
-    )
+    filled_next b c.loop-leg.leg c.loop-leg.place-items c.unwrap_or.result c.loop-leg-test.true c.loop-leg.invariant (c.unwrap_or.ensures ∙ own_ends b c.loop-leg.leg c.ends.result c.ends.ensures)
 
 pub returns : goal.returns
 returns g c =
     let b = g.B.Book.meaning c.args.book.now in
-    let inv = c.loop-k.invariant in
-    let all : c.loop-k.k ≡ b.legs = omega arith in
+    let shape = c.keeps_laws.ensures.shape in
+    let last = c.loop-leg-test.false in
+    let filled = c.loop-leg.invariant in
     same_settings _ _ refl
-    (subst (λ n. at c.loop-k.low ≡ legwise n b.lo) all inv.2)
-    (subst (λ n. at c.loop-k.high ≡ legwise n b.hi) all inv.3)
-    (read_replicate 65 0)
-    (read_replicate 65 4095)
+    (filled_los b shape c.loop-leg.leg c.loop-leg.place-items last filled)
+    (filled_his b shape c.loop-leg.leg c.loop-leg.place-items last filled)
+    (read_replicate (λ (e : Ends). e.lo) 65 _)
+    (read_replicate (λ (e : Ends). e.hi) 65 _)

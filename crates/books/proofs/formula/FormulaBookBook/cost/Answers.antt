@@ -7,7 +7,7 @@ use Rattle.books.proofs.formula.FormulaBookBook.cost.Goals as goal
 pub returns : goal.returns
 returns c =
     let book = c.args.self.now in
-    let leg = at book.legs c.args.leg in
+    let leg = at book.legs.items c.args.leg in
     let here = c.in_ok-leg.ensures in
     let low : leg.lo ≤ c.args.minutes = rw (← here.1) (omega arith) in
     let high : c.args.minutes ≤ leg.hi = rw (← here.1) (omega arith) in (

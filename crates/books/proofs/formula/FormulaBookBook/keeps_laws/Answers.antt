@@ -17,7 +17,7 @@ returns c =
             short = λ i p. (book.timed (i - 1)).1;
           };
       range = λ i m p.
-          let b = in_range (at book.legs i) m (book.timed (i - 1)) (book.weighed (i - 1)) p.2 in
+          let b = in_range (at book.legs.items i) m (book.timed (i - 1)) (book.weighed (i - 1)) p.2 in
           (single-within _ _ b.0 b.1, single_ends _);
-      steps = λ i m p low high. steps_rise (at book.legs i) m;
+      steps = λ i m p low high. steps_rise (at book.legs.items i) m;
     }

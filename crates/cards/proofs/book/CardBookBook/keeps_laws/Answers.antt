@@ -6,7 +6,7 @@ pub returns : goal.returns
 returns c =
     let book = c.args.self.now in
     record {
-      shape = shaped _ _ book.shaped book.lawful;
-      range = ranged _ _ book.shaped book.lawful;
-      steps = convex _ _ book.shaped book.lawful;
+      shape = shaped _ _ book.shaped.shaped book.lawful;
+      range = ranged _ _ book.shaped.shaped book.lawful;
+      steps = convex _ _ book.shaped.shaped book.lawful;
     }

@@ -1,4 +1,3 @@
-use native.Mathlib.Nat.{sub-zero}
 use Rattle.frames.proofs.Answers.{answer_malformed, answer_decoded, answer_only}
 use Rattle.frames.proofs.calls.Call.read.Goals as goal
 
@@ -10,5 +9,5 @@ returns-in_default c =
 pub returns : goal.returns
 returns c =
     let read = c.in-Some.ensures in
-    let answer = answer_decoded c.args.line.now _ c.decode.result read.0 read.2 (rw sub-zero at c.decode.ensures) in
+    let answer = answer_decoded c.args.line.now _ c.decode.result read.0 read.2 c.decode.ensures in
     record { answer = answer; only = λ other is. answer_only c.args.line.now _ other answer is }

@@ -1,5 +1,4 @@
-use Rattle.std.proofs.Common.{◌≡◌, ◌-◌, take, Ok, sym, subst}
-use native.Mathlib.Nat.{sub-zero}
+use Rattle.std.proofs.Common.{◌≡◌, take, Ok, sym, subst}
 use Rattle.std.proofs.lemmas.List.{take_at}
 use Rattle.frames.specs.Frames.{Spells, line_of}
 use Rattle.frames.proofs.calls.Call.read_back.Goals as goal
@@ -7,6 +6,6 @@ use Rattle.frames.proofs.calls.Call.read_back.Goals as goal
 pub returns : goal.returns
 returns c =
     let wrote = c.write-count.ensures in
-    let line : take (c.write-count.result - 0) c.write-count.new.place ≡ line_of c.args.self =
-    rw (sub-zero, wrote.after) (take_at (line_of c.args.self) _ _ (sym wrote.count)) in
+    let line : take c.write-count.result c.write-count.new.place ≡ line_of c.args.self =
+    rw wrote.after (take_at (line_of c.args.self) _ _ (sym wrote.count)) in
     sym (c.read.ensures.only (Ok c.args.self) (subst (λ text. Spells text c.args.self) (sym line) wrote.spells))

@@ -1,5 +1,4 @@
 use Rattle.std.proofs.Common.{length, ap, arith, rules}
-use native.Mathlib.Nat.{sub-zero}
 use Rattle.lines.proofs.lines.LinesIterator.next.Goals as goal
 use Rattle.lines.proofs.Cuts.{first_line, no_lines}
 use Rattle.std.proofs.iter.Next.{firm}
@@ -12,4 +11,4 @@ returns c =
     let line = first_line c.args.self.now.rest.now c.after-self.result.now c.line_end-end.result
     (search rules) c.line_end-end.ensures.within c.line_end-end.ensures.before c.line_end-end.ensures.found
     c.after-self.ensures in
-    record { steps = rw sub-zero line; goes = firm ((tt, tt, omega (arith, ap length line))) (λ h. search rules) }
+    record { steps = line; goes = firm ((tt, tt, omega (arith, ap length line))) (λ h. search rules) }

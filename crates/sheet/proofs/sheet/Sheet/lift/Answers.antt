@@ -4,8 +4,6 @@ use Rattle.sheet.proofs.sheet.Sheet.lift.Goals as goal
 pub returns : goal.returns
 returns g c =
     record {
-      carried = c.timed.ensures.carried;
-      over = c.timed.ensures.over;
-      unwritten = c.timed.ensures.unwritten;
+      called = c.timed.ensures;
       stays = λ sound. lift_opens g.B.Cost.Amount.row (g.B.Book.meaning c.args.self.now.book) c.args.self.now.state c.args.stop _ _ c.timed.result sound (c.timed.ensures.carried.answered sound);
     }

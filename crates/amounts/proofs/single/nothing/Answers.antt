@@ -1,5 +1,0 @@
-use Rattle.amounts.specs.Singles.{single_zero}
-use Rattle.amounts.proofs.single.nothing.Goals as goal
-
-pub returns : goal.returns
-returns c = single_zero
