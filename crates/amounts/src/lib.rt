@@ -34,7 +34,8 @@ pub trait Amount: Copy {
     fn checked_sub(self, other: Self) -> Option<Self>
         ensures { Exactly places row (minus (row self) (row other)) result };
 
-    // Whether this amount is at most the other in the order of the kind.
+    // Whether this amount is at most the other in the order of the kind. It is no `PartialOrd`: that goes with an `==`, and a
+    // derived one tells apart fields beyond the range that are read as the same end.
     fn at_most(self, other: Self) -> bool
         ensures { Tells result (le (row self) (row other)) };
 

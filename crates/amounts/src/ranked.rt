@@ -41,6 +41,7 @@ impl<A: Amount, B: Amount> Amount for Ranked<A, B> {
         Some(Ranked { first, second })
     }
 
+    // apart from the sum: a function that is handed the parts' operation would ask for both parts' and be no shorter
     fn checked_sub(self, other: Self) -> Option<Self> {
         let first = self.first.checked_sub(other.first)?;
         let second = self.second.checked_sub(other.second)?;

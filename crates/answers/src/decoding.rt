@@ -62,6 +62,7 @@ impl Reading {
     // Reads an answer line, without its line feed: the line spells the answer that is told, and an
     // answer that is spelled so is told. The minutes of a timing go to the start of a place, which
     // stays as it was past them, and all of it where there is no timing.
+    // The place is lent, so that this promise can be kept; a vector that is answered would leave no rest.
     pub fn read(line: &[u8], minutes: &mut [u16; 64]) -> Option<Reading>
         ensures reads { Reads line.now minutes.old result minutes.new }
         ensures only { (reply : Reply) → Spells line.now reply → ReadAs result minutes.new reply }

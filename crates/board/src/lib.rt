@@ -49,6 +49,7 @@ impl TryFrom<u8> for Layer {
 }
 
 // What a refusal carries upward: the row of the refusal board, its layer, and the leg or stop that it tells (0: none).
+// Row and leg are numbers, and no enum or option: that is how an answer line tells them, and one that is read may tell any.
 #[derive(Clone, Copy, PartialEq, Eq, Debug)]
 pub struct Refusal {
     pub number: u8,

@@ -18,7 +18,7 @@ pub const MOST_LEGS: usize = 64;
 // The greatest minute.
 pub const LAST_MINUTE: u16 = 4095;
 
-// The two ends of a leg: the fewest and the most minutes that it can be flown in.
+// The two ends of a range of minutes: of those that a leg can be flown in, of a leg's bounds, of a stop's window.
 #[derive(Clone, Copy, PartialEq, Eq, Debug)]
 pub struct Ends {
     pub lo: u16,
@@ -26,7 +26,7 @@ pub struct Ends {
 }
 
 impl Ends {
-    // Whether some minutes are at least the fewest and at most the most.
+    // Whether some minutes are at least the lower end and at most the upper one.
     pub fn contains(self, minutes: u16) -> bool
         ensures { MatchBool result ((self.lo ≤ minutes) × (minutes ≤ self.hi)) ((minutes < self.lo) ⊎ (self.hi < minutes)) }
     {

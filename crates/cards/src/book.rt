@@ -31,7 +31,8 @@ impl CardBook<'_> {
     }
 }
 
-// Puts the book of these heads and cards into the place, or refuses, and the place keeps what it held.
+// Puts the book of these heads and cards into the place, or refuses, and the place keeps what it held: that is why it fills a
+// place, and answers no book.
 // A refusal tells the first row of the board that is broken, in it the lowest leg, and of a falling step the lowest minute.
 pub fn load<'a>(
     place: &mut CardBook<'a>,

@@ -54,7 +54,7 @@ impl Deck<'_> {
         requires { length self.now.heads.now ≤ 64 }
         ensures { MatchOption result (NoneIs (Malformed self.now.heads.now self.now.cards.now)) (Lowest (Malformed self.now.heads.now self.now.cards.now)) }
     {
-        // from 1 up to one more: of `..=` it does not follow which numbers `find` has passed
+        // from 1 up to one more: for `find` over `..=` the library has no lemma, and `search` finds no proof
         (1..self.heads.len() + 1).find(|leg| self.is_malformed(*leg))
     }
 

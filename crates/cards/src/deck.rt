@@ -5,13 +5,15 @@ ghost use Rattle.cards.specs.Cards.{Leg, head, offset, costs_of, shape_rules};
 
 use crate::head::Head;
 
-// Lent heads and cards; the cards of the legs follow each other in the order of the heads.
+// Lent heads and cards; the cards of the legs follow each other in the order of the heads. Two lists, of unlike lengths, are what is
+// loaded.
 #[derive(Clone, Copy)]
 pub(crate) struct Deck<'a> {
     pub(crate) heads: &'a [Head],
     pub(crate) cards: &'a [i64],
 }
 
+// That a leg is one of the deck, and that there are at most 64, is asked of single calls before the deck is known to be well formed.
 impl Deck<'_> {
     // The head of a leg, counted from 1; absent exactly if there is no such leg.
     pub(crate) fn head(&self, leg: usize) -> Option<Head>
@@ -26,12 +28,10 @@ impl Deck<'_> {
         ensures sum { result ≡ offset self.now.heads.now leg }
         ensures few { result ≤ 64 * 65535 }
     {
-        // by a loop: through `map` and `sum` it does not follow that the counts are small enough to add up
-        let mut sum = 0;
-        for head in &self.heads[..leg - 1] {
-            sum += usize::from(head.count);
-        }
-        sum
+        self.heads[..leg - 1]
+            .iter()
+            .map(|head| usize::from(head.count))
+            .sum()
     }
 }
 

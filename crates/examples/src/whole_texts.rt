@@ -1,5 +1,5 @@
 // An example of a whole text of calls and its answers, with work areas that are just long enough.
-use amounts::{Cents, Kilograms, Ranked};
+use amounts::{Amount, Cents, Kilograms, Ranked};
 use protocol::answer_into;
 use std::test::Fail;
 
@@ -22,10 +22,7 @@ EE1003010006
 
 #[test]
 fn two_legs(rt: HostRuntime) -> Result<(), Fail> {
-    let nothing = Ranked {
-        first: Kilograms::new(0),
-        second: Cents::new(0),
-    };
+    let nothing: Ranked<Kilograms, Cents> = Ranked::zero();
     let mut minutes = [0; 252];
     let mut amounts = [nothing; 252];
     let mut out = Vec::new(rt.alloc());

@@ -1,6 +1,7 @@
 // The calls that a frame can carry.
 
-// One case for each call, its fields as wide as in the frame.
+// One case for each call, its fields as wide as in the frame. Apart from the calls of a sheet, six of which it spells: a frame may
+// write in a book as well, and frames know of no sheet.
 #[derive(Clone, Copy, PartialEq, Eq, Debug)]
 pub enum Call {
     // Opens the sheet with a total of minutes.

@@ -7,6 +7,7 @@ use crate::calls::Call;
 use hexadecimal::write_hex;
 
 // Writes the bytes of a frame as hexadecimal at the start of a place, and tells how many characters it wrote; the others stay.
+// It stands apart from `write_hex`, which may be absent: that a frame always has room is shown here once, for every kind.
 fn put_hex(bytes: &[u8], place: &mut [u8; 64]) -> usize
     requires { length bytes.now ≤ 32 }
     ensures count { result ≡ length (hexed bytes.now) }
@@ -17,7 +18,7 @@ fn put_hex(bytes: &[u8], place: &mut [u8; 64]) -> usize
 
 impl Call {
     // Writes the call's line at the start of a place, with no line feed, and tells how many
-    // characters it wrote; the others stay.
+    // characters it wrote; the others stay. The place is lent for that, and no vector answered.
     pub fn write(self, place: &mut [u8; 64]) -> usize
         ensures count { result ≡ length (line_of self) }
         ensures after { place.new ≡ line_of self ++ drop result place.old }

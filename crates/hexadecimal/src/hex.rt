@@ -38,6 +38,8 @@ fn all_digits(line: &[u8]) -> bool
         .all(|character| digit_value(*character).is_some())
 }
 
+// Both ways write into a place that is lent, and tell how far it is used: what stood behind stays, and no memory is taken.
+
 // Writes bytes as hexadecimal at the start of a place that is long enough, and tells how many
 // characters it wrote.
 fn put_hex(bytes: &[u8], place: &mut [u8]) -> usize
@@ -45,7 +47,7 @@ fn put_hex(bytes: &[u8], place: &mut [u8]) -> usize
     ensures count { result ≡ length (hexed bytes.now) }
     ensures after { place.new ≡ hexed bytes.now ++ drop result place.old }
 {
-    // by index into the place: once its parts are lent by `chunks_exact_mut`, a proof knows only its length
+    // by index into the place: after `as_chunks_mut` a proof knows only how long it is
     for (i, byte) in bytes.iter().enumerate() {
         place[2 * i] = digit_of(*byte / 16);
         place[2 * i + 1] = digit_of(*byte % 16);
@@ -72,7 +74,7 @@ fn take_hex(line: &[u8], place: &mut [u8]) -> usize
     ensures same { drop result place.new ≡ drop result place.old }
 {
     let (pairs, _) = line.as_chunks::<2>();
-    // by index into the place: once its parts are lent by `iter_mut`, beside the pairs, a proof knows only its length
+    // by index into the place: after `place.iter_mut().zip(pairs)` a proof knows only how long it is
     for (i, [high, low]) in pairs.iter().enumerate() {
         place[i] = 16 * value_of(*high) + value_of(*low);
     }

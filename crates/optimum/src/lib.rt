@@ -10,7 +10,7 @@ ghost use Rattle.optimum.specs.Rotation.{Settings, Timing, Cheapest, cost_of_tim
 use amounts::Amount;
 
 // The price of a minute, named by a leg and a minute of the book: what one minute more than that costs on that leg.
-// Leg 0 with minute 0 names the price zero.
+// Leg 0 with minute 0 names the price zero: it is no `Option`, since a price is told as a leg and a minute, zero too.
 #[derive(Clone, Copy, PartialEq, Eq, Debug)]
 pub struct Price {
     pub leg: u8,

@@ -8,7 +8,7 @@ use frames::FrameFault;
 use register::SheetFault;
 
 // Why a line is refused.
-#[derive(Clone, Copy)]
+#[derive(Clone, Copy, PartialEq, Eq, Debug)]
 pub enum LineFault {
     // by its frame
     Frame(FrameFault),

@@ -16,7 +16,7 @@ use board::Refusal;
 use lines::{LIMIT, Lines, start_of};
 use std::alloc::{AllocError, Global};
 
-// The answer that tells the result of the line with this number.
+// The answer that tells the result of the line with this number. It is no `From`, since the number goes with the result.
 fn answer_of<'a>(number: u16, outcome: &'a Result<Option<Timing>, LineFault>) -> Answer<'a>
     ensures { meant result ≡ reply told number outcome.now }
 {

@@ -43,7 +43,7 @@ pub(crate) fn charge_book(q: u16) -> ChargeBook<FormulaBook>
 }
 
 // What a price is worth in a book: what one minute more than the price names costs on its leg, and zero on leg 0. Absent only if
-// the price names neither zero nor a step of the book.
+// the price names neither zero nor a step of the book. Apart from the solver's own, which is asked of prices of its book alone.
 pub(crate) fn worth(book: &FormulaBook, price: Price) -> Option<Kilograms>
     ensures { options.MatchOption result (prices.Named (formulas book.now.legs.items) price → ⊥) (λ a. single (nearest a.value) ≡ prices.worth (formulas book.now.legs.items) price) }
 {

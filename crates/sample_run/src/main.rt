@@ -25,7 +25,7 @@ const MINUTES: usize = 525;
 
 const AMOUNTS: usize = 350;
 
-// Some legs of G.
+// Some legs of G, the book of the samples: each is flown in 50 to 70 minutes, and costs the square of their distance from 60.
 fn g(legs: u8) -> FormulaBook
     requires { legs ≤ 64 }
     ensures { LegsOf (formulas result.legs.items) legs (leg 1) }

@@ -19,6 +19,8 @@ use states::State;
 
 // A sheet: blank, or standing with settings (a total, the bounds of every leg, the window of every stop), one timing that
 // is cheapest for them, and one price for each leg. It is made over one book, which it keeps unchanged.
+// That it is sound for its book stands in the contracts: as a ghost field it would have to be a fact with one proof at most, which
+// no kind of amount promises of its order.
 #[derive(Drop)]
 pub struct Sheet<B: Book> {
     pub(crate) book: B,
@@ -35,6 +37,10 @@ impl<B: Book> Sheet<B> {
         let state = State::new();
         Sheet { book, state }
     }
+
+    // The five calls that put a timing on the sheet are alike but for the call they make: each has numbers of its own, as they come,
+    // in order or not, and `timed` is what they share. The work areas are two slices, and no struct of both: handing on parts of one, as `run_into`
+    // does, is not covered by the borrow checker.
 
     // Opens the sheet: this total, the book's ends as bounds, every window 0 to 4,095.
     pub fn open(
@@ -109,6 +115,9 @@ impl<B: Book> Sheet<B> {
     {
         self.state.close(&self.book)
     }
+
+    // The questions take what may be absent apart by `let .. else`, as everywhere at the sheet: what is absent and why stands in
+    // a line of its own. `minutes` and `price` read one field each of what `place` answers.
 
     // The minutes of the legs 1 to n, leg 1 first; absent on a blank sheet.
     pub fn timing(&self) -> Option<&[u16]>

@@ -17,7 +17,7 @@ use Rattle.solver.specs.Pricing.{Floor, Fair, FairUp, Rises, Falls}
 use Rattle.solver.specs.Plans.{los, his, price_at}
 
 -- the price of leg j after a write at leg i
-pub after_price : (P : Price → Type 0) (ps : List Price) (i : ℕ) (p : Price) (j : ℕ) → i < length ps → (j ≡ i → P p) → (j ≢ i → P (price_at ps j)) → P (price_at (set ps i p) j)
+after_price : (P : Price → Type 0) (ps : List Price) (i : ℕ) (p : Price) (j : ℕ) → i < length ps → (j ≡ i → P p) → (j ≢ i → P (price_at ps j)) → P (price_at (set ps i p) j)
 after_price P ps i p j within here there =
     ⊎_elim
     (λ same. subst P (subst (λ m. p ≡ price_at (set ps i p) m) (sym same) (sym (get_or-set_same ps i p _ within))) (here same))

@@ -1,8 +1,8 @@
 -- An array as a function from the numbers of legs. Assumes nothing.
-use Rattle.std.proofs.Common.{◌≡◌, ℕ, ◌+◌, ◌-◌, ◌<◌, ◌≤◌, ◌≢◌, List, length, get_or, set, take, drop, sym, ap, ◌∙◌, subst, ⊎_elim, arith}
+use Rattle.std.proofs.Common.{◌≡◌, ℕ, ◌+◌, ◌-◌, ◌<◌, ◌≤◌, ◌≢◌, zero, suc, List, ◌∷◌, ◌++◌, length, get_or, set, take, drop, add-one, below_more, sym, ap, ◌∙◌, subst, ⊎_elim, arith}
 use mathlib.Core.Path.{fun_ext}
 use Rattle.std.proofs.lemmas.Bool.{cases_eq, cases_lt}
-use Rattle.std.proofs.lemmas.List.{get_or-set_same, get_or-set_other, get_or_past, get_or-take, get_or-drop, get_or_default}
+use Rattle.std.proofs.lemmas.List.{get_or-set_same, get_or-set_other, get_or_past, get_or-take, get_or-drop, get_or_default, get_or_append_left}
 use Rattle.books.specs.declared.Ends.{Ends}
 use Rattle.optimum.specs.Rotation.{put}
 use Rattle.optimum.proofs.Sums.{put_same, put_other}
@@ -18,13 +18,24 @@ after-set P es i e j within here there =
     (λ other. subst Q (sym (get_or-set_other es i j e none other)) (there other))
     (cases_eq j i)
 
--- one number more is as f says
-pub read_more : (f : ℕ → ℕ) (xs : List ℕ) (i v : ℕ) → i < length xs → v ≡ f i → ((j : ℕ) → j < i → get_or xs j 0 ≡ f j) → (j : ℕ) → j ≤ i → get_or (set xs i v) j 0 ≡ f j
-read_more f xs i v within own before j low =
-    ⊎_elim
-    (λ same. subst (λ m. get_or (set xs i v) m 0 ≡ f m) (sym same) (get_or-set_same xs i v 0 within ∙ own))
-    (λ other. get_or-set_other xs i j v 0 other ∙ before j (omega arith))
-    (cases_eq j i)
+-- what holds of the elements of the first k legs, which stand one place earlier than their numbers
+abbrev pub Legwise : {A : Type 0} → (ℕ → A → Type 0) → A → List A → ℕ → Type 0
+Legwise P d xs k = (i : ℕ) → i < k → P (i + 1) (get_or xs i d)
+
+module _ {A : Type 0} (P : ℕ → A → Type 0) (d : A) where
+  -- one leg more
+  pub legwise_more : (xs : List A) (k : ℕ) (v : A) → k < length xs → P (k + 1) v → Legwise P d xs k → Legwise P d (set xs k v) (k + 1)
+  legwise_more xs k v within own before =
+      below_more _ k
+      (λ i low. let other : i ≢ k = omega arith in subst (P (i + 1)) (sym (get_or-set_other xs k i v d other)) (before i low))
+      (subst (P (k + 1)) (sym (get_or-set_same xs k v d within)) own)
+
+  -- the elements of the legs 1 to n at their places in an array, behind that of no leg
+  pub legwise_placed : (none : A) (xs rest : List A) (n : ℕ) → length xs ≡ n → Legwise P d xs n → (i : ℕ) → 1 ≤ i → i ≤ n → P i (get_or (none ∷ (xs ++ rest)) i d)
+  legwise_placed none xs rest n long each zero low high = absurd (omega arith)
+  legwise_placed none xs rest n long each (suc k) low high =
+      let less : k < n = omega arith in
+      subst (P (suc k)) (sym (get_or_append_left xs rest d k (omega arith))) (rw add-one at (each k less))
 
 -- the range of leg k + 1 in the slice of those of the legs 1 to n
 pub slice_range_at : (es : List Ends) (n k : ℕ) (d : Ends) → k < n → n < length es → get_or (take (n + 1 - 1) (drop 1 es)) k d ≡ range es (k + 1)

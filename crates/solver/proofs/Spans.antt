@@ -1,12 +1,16 @@
 -- The spans of the stops, one stop after the other. Assumes nothing.
-use Rattle.std.proofs.Common.{◌≡◌, ℕ, ◌+◌, ◌-◌, ◌<◌, ◌≤◌, min, max, eqb, List, length, set, sym, ap, ◌∙◌, subst, subst₂, arith}
+use Rattle.std.proofs.Common.{◌≡◌, ℕ, ◌+◌, ◌-◌, ◌<◌, ◌≤◌, min, max, eqb, zero, suc, List, ◌∷◌, ◌++◌, length, set, add-one, sym, ap, ◌∙◌, subst₂, arith}
 use Rattle.std.proofs.lemmas.Bool.{cond_both, eqb-false}
 use Rattle.books.specs.declared.Ends.{Ends}
-use Rattle.optimum.specs.Rotation.{put, Settings, earliest, latest}
-use Rattle.solver.specs.Plans.{los, his, First, Small, Clipped}
+use Rattle.optimum.specs.Rotation.{put, Settings, Stuck, Timing, earliest, latest}
+use Rattle.solver.specs.Plans.{range, los, his, First, Small, Clipped}
 use Rattle.optimum.specs.Method.{Reach, Between}
 use Rattle.optimum.proofs.Reach.{reach_start, reach_more, reach_stuck, reach_open, between_backwards, between_clip}
-use Rattle.solver.proofs.Places.{after-set, los_set, his_set}
+use Rattle.solver.proofs.Places.{Legwise, legwise_placed, los_set, his_set}
+
+-- what stands in an array of ranges where none is
+abbrev pub no_span : Ends
+no_span = record { lo = 0; hi = 0 }
 
 module _ (n : ℕ) (s : Settings) where
   pub latest_small : Small n s → (k : ℕ) → 1 ≤ k → k ≤ n → latest n s k ≤ 4095
@@ -16,33 +20,31 @@ module _ (n : ℕ) (s : Settings) where
       (λ _. small.day)
       (λ other. small.windows k low (let ne = eqb-false k n other in omega arith))
 
-  abbrev pub Spans : List Ends → ℕ → Type 0
-  Spans es k = (j : ℕ) → j ≤ k → Reach n s j (los es j) (his es j)
+  -- the span of stop i
+  abbrev pub Spanned : ℕ → Ends → Type 0
+  Spanned i e = Reach n s i e.lo e.hi
 
-  pub spans_none : (es : List Ends) → los es 0 ≡ 0 → his es 0 ≡ 0 → Spans es 0
-  spans_none es e f j h =
-      let z : 0 ≡ j = omega arith in
-      subst (λ i. Reach n s i (los es i) (his es i)) z (subst₂ (Reach n s 0) (sym e) (sym f) (reach_start n s))
+  -- the spans of the start and of the stops behind it, at their places in an array
+  pub spans_placed : (rs rest : List Ends) → length rs ≡ n → Legwise Spanned no_span rs n → (k : ℕ) → k ≤ n → Spanned k (range (no_span ∷ (rs ++ rest)) k)
+  spans_placed rs rest long each zero high = reach_start n s
+  spans_placed rs rest long each (suc k) high = legwise_placed Spanned no_span no_span rs rest n long each (suc k) (omega arith) high
 
-  spans_push : (es : List Ends) (k : ℕ) (e : Ends) → k < length es → ((j : ℕ) → j < k → Reach n s j (los es j) (his es j)) → Reach n s k e.lo e.hi → Spans (set es k e) k
-  spans_push es k e within before here j h =
-      after-set (Reach n s j) es k e j within
-      (λ same. subst (λ i. Reach n s i e.lo e.hi) (sym same) here)
-      (λ other. before j (omega arith))
+  -- the start and the first k stops can be reached
+  spans_open : (rs : List Ends) (k : ℕ) → Legwise Spanned no_span rs k → (j : ℕ) → j ≤ k → Stuck n s j → ⊥
+  spans_open rs k each zero h = reach_open (reach_start n s)
+  spans_open rs k each (suc j) h = let less : j < k = omega arith in reach_open (rw add-one at (each j less))
 
-  -- one stop more, its span e as computed
-  module _ (es : List Ends) (k : ℕ) (e : Ends) (lo : e.lo ≡ max (earliest n s (k + 1)) (los es k + s.low (k + 1))) (hi : e.hi ≡ min (latest n s (k + 1)) (his es k + s.high (k + 1))) where
-    pub spans_more : k + 1 < length es → s.low (k + 1) ≤ s.high (k + 1) → e.lo ≤ e.hi → Spans es k → Spans (set es (k + 1) e) (k + 1)
-    spans_more within order o before =
-        spans_push es (k + 1) e within (λ j h. before j (omega arith))
-        (subst₂ (Reach n s (k + 1)) (sym lo) (sym hi) (reach_more (before k (omega arith)) order (rw (← lo, ← hi) o)))
+  -- one stop more, its span e as computed of the span d before it
+  module _ (k : ℕ) (d e : Ends) (lo : e.lo ≡ max (earliest n s (k + 1)) (d.lo + s.low (k + 1))) (hi : e.hi ≡ min (latest n s (k + 1)) (d.hi + s.high (k + 1))) (before : Spanned k d) where
+    pub span_more : s.low (k + 1) ≤ s.high (k + 1) → e.lo ≤ e.hi → Spanned (k + 1) e
+    span_more order o = subst₂ (Reach n s (k + 1)) (sym lo) (sym hi) (reach_more before order (rw (← lo, ← hi) o))
 
-    pub spans_stuck : k + 1 ≤ n → e.hi < e.lo → Spans es k → First n s (k + 1)
-    spans_stuck within o before =
+    pub span_stuck : (rs : List Ends) → k + 1 ≤ n → e.hi < e.lo → Legwise Spanned no_span rs k → First n s (k + 1)
+    span_stuck rs within o each =
         record {
           leg = (omega arith, within);
-          stuck = reach_stuck (before k (omega arith)) (rw (← lo, ← hi) o);
-          before = λ j h. reach_open (before j (omega arith));
+          stuck = reach_stuck before (rw (← lo, ← hi) o);
+          before = λ j h. spans_open rs k each j (omega arith);
         }
 
   -- one stop further back
@@ -53,20 +55,26 @@ module _ (n : ℕ) (s : Settings) where
       (sym (his_set es k e inside ∙ ap (put (his es) k) hi))
       (between_backwards n s (los es) (his es) k before within)
 
+  -- the limits of leg i lie in its bounds and leave out no timing
+  abbrev pub Clips : ℕ → Ends → Type 0
+  Clips i e = (s.low i ≤ e.lo) × (e.hi ≤ s.high i) × ((y : ℕ → ℕ) → Timing n s y → (e.lo ≤ y i) × (y i ≤ e.hi))
+
   -- one leg more is clipped
-  pub clip_more : (es rs : List Ends) (k : ℕ) (e : Ends) → k + 1 < length rs → k + 1 ≤ n → Between n s (los es) (his es) → e.lo ≡ max (s.low (k + 1)) (los es (k + 1) - his es k) → e.hi ≡ min (s.high (k + 1)) (his es (k + 1) - los es k) → Clipped n k s (los rs) (his rs) → Clipped n (k + 1) s (los (set rs (k + 1) e)) (his (set rs (k + 1) e))
-  clip_more es rs k e inside within spans lo hi before =
+  pub clips : (es : List Ends) (k : ℕ) (e : Ends) → k + 1 ≤ n → Between n s (los es) (his es) → e.lo ≡ max (s.low (k + 1)) (los es (k + 1) - his es k) → e.hi ≡ min (s.high (k + 1)) (his es (k + 1) - los es k) → Clips (k + 1) e
+  clips es k e within spans lo hi = (
+    omega arith,
+    omega arith,
+    λ y timing.
+        let clip = between_clip n s (los es) (his es) k spans within y timing in
+        let kept = timing.bounds (k + 1) (omega arith) within in
+        (omega arith, omega arith),
+  )
+
+  -- the limits of the legs 1 to n at their places in an array
+  pub clipped_all : (none : Ends) (rs rest : List Ends) → length rs ≡ n → Legwise Clips no_span rs n → Clipped n n s (los (none ∷ (rs ++ rest))) (his (none ∷ (rs ++ rest)))
+  clipped_all none rs rest long each =
+      let placed = legwise_placed Clips no_span none rs rest n long each in
       record {
-        bounds = λ i low high.
-            after-set (λ v w. (s.low i ≤ v) × (w ≤ s.high i)) rs (k + 1) e i inside
-            (λ same. let lo' = ap s.low same in let hi' = ap s.high same in (omega arith, omega arith))
-            (λ other. before.bounds i low (omega arith));
-        timings = λ y timing i low high.
-            after-set (λ v w. (v ≤ y i) × (y i ≤ w)) rs (k + 1) e i inside
-            (λ same.
-            let clip = between_clip n s (los es) (his es) k spans within y timing in
-            let kept = timing.bounds (k + 1) (omega arith) within in
-            let own = ap y same in
-            (omega arith, omega arith))
-            (λ other. before.timings y timing i low (omega arith));
+        bounds = λ i low high. let own = placed i low high in (own.0, own.1);
+        timings = λ y timing i low high. (placed i low high).2 y timing;
       }

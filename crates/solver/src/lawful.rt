@@ -3,6 +3,7 @@ ghost use Rattle.std.specs.Prelude.{ℕ, ◌<◌, ◌≤◌, MatchBool};
 ghost use Rattle.books.specs.Meaning.{IsLeg};
 ghost use Rattle.solver.specs.Plans.{settings, Inside, BoundsFit, WindowsFit, Lawful};
 
+use crate::course::Course;
 use crate::plan::Plan;
 use books::{Book, Ends, LAST_MINUTE};
 
@@ -13,7 +14,7 @@ fn inside(range: Ends, outer: Ends) -> bool
     outer.lo <= range.lo && range.lo <= range.hi && range.hi <= outer.hi
 }
 
-// Whether there is such a leg, with its bounds in order and within its ends.
+// Whether a leg's bounds are in order and within its ends. It is asked of a leg of the book alone.
 fn leg_fits<B: Book>(book: &B, plan: &Plan, leg: usize) -> bool
     ensures { MatchBool result (BoundsFit (B.meaning book.now) (settings plan.now) leg) (IsLeg (B.meaning book.now) leg → BoundsFit (B.meaning book.now) (settings plan.now) leg → ⊥) }
 {
@@ -29,28 +30,31 @@ fn bounds_fit<B: Book>(book: &B, plan: &Plan) -> bool
     ensures { MatchBool result ((i : ℕ) → IsLeg (B.meaning book.now) i → BoundsFit (B.meaning book.now) (settings plan.now) i) (((i : ℕ) → IsLeg (B.meaning book.now) i → BoundsFit (B.meaning book.now) (settings plan.now) i) → ⊥) }
 {
     book.keeps_laws();
+    // up to one more: for `all` over `..=` the library has no lemma, and `search` finds no proof
     (1..book.legs() + 1).all(|leg| leg_fits(book, plan, leg))
 }
 
-// Whether the window of every stop before the last is in order and ends by the last minute.
-fn windows_fit(plan: &Plan, legs: usize) -> bool
-    requires { (1 ≤ legs) × (legs < 65) }
-    ensures { MatchBool result ((k : ℕ) → 1 ≤ k → k < legs → WindowsFit (settings plan.now) k) (((k : ℕ) → 1 ≤ k → k < legs → WindowsFit (settings plan.now) k) → ⊥) }
-{
-    let day = Ends {
-        lo: 0,
-        hi: LAST_MINUTE,
-    };
-    plan.windows[1..legs]
-        .iter()
-        .all(|window| inside(*window, day))
+impl Course<'_> {
+    // Whether the window of every stop before the last is in order and ends by the last minute.
+    fn windows_fit(&self) -> bool
+        requires { 1 ≤ self.now.legs }
+        ensures { MatchBool result ((k : ℕ) → 1 ≤ k → k < self.now.legs → WindowsFit (settings self.now.plan.now) k) (((k : ℕ) → 1 ≤ k → k < self.now.legs → WindowsFit (settings self.now.plan.now) k) → ⊥) }
+    {
+        let day = Ends {
+            lo: 0,
+            hi: LAST_MINUTE,
+        };
+        let plan = self.plan;
+        plan.windows[1..self.legs]
+            .iter()
+            .all(|window| inside(*window, day))
+    }
 }
 
 // Whether a plan is one that fits a book.
 pub(crate) fn lawful<B: Book>(book: &B, plan: &Plan) -> bool
     ensures { MatchBool result (Lawful (B.meaning book.now) (settings plan.now)) (Lawful (B.meaning book.now) (settings plan.now) → ⊥) }
 {
-    book.keeps_laws();
-    let legs = book.legs();
-    legs > 0 && plan.total <= LAST_MINUTE && bounds_fit(book, plan) && windows_fit(plan, legs)
+    let course = Course::over(book, plan);
+    course.legs > 0 && plan.total <= LAST_MINUTE && bounds_fit(book, plan) && course.windows_fit()
 }

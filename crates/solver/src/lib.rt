@@ -9,6 +9,7 @@ use amounts::Amount;
 use books::Book;
 use optimum::Price;
 
+mod course;
 mod fault;
 mod lawful;
 mod narrow;
@@ -18,14 +19,15 @@ mod reach;
 mod steps;
 mod way;
 
+use course::Course;
 pub use fault::PlanFault;
 use lawful::lawful;
 use narrow::narrow;
 pub use plan::Plan;
 use pricing::prices;
-use reach::{backward, clip, forward};
 
-// A timing and its prices, by the number of the leg; place 0 belongs to none.
+// A timing and its prices, by the number of the leg; place 0 belongs to none. They are two arrays, since prices are found when the
+// minutes stand, and minutes are lent as a slice.
 #[derive(Clone, Copy)]
 pub struct Solution {
     pub minutes: [u16; 65],
@@ -41,9 +43,9 @@ pub fn solve<B: Book>(book: &B, plan: &Plan, steps: &mut [B::Cost]) -> Result<So
         return Err(PlanFault::Unlawful);
     }
     book.keeps_laws();
-    let legs = book.legs();
-    let spans = backward(plan, legs, forward(plan, legs)?);
-    let minutes = narrow(book, plan, clip(plan, legs, &spans), steps);
+    let course = Course::over(book, plan);
+    let spans = course.backward(course.forward()?);
+    let minutes = narrow(book, plan, course.clip(&spans), steps);
     let prices = prices(book, plan, &minutes, steps);
     Ok(Solution { minutes, prices })
 }

@@ -5,20 +5,23 @@ ghost use Rattle.optimum.specs.Method.{Fits, Boxed};
 ghost use Rattle.solver.specs.Plans.{at, los, his, settings};
 ghost use Rattle.solver.specs.Narrowing.{moving, resting, Settled};
 
+use crate::course::Course;
 use crate::plan::Plan;
-use crate::steps::{choose, gather, refresh};
+use crate::steps::{Front, refresh};
 use crate::way::{Lower, Raise, Way};
 use books::{Book, Ends};
 
-// The ends that a move moves, of the legs 1 to `legs` together.
-fn sum<W: Way>(ranges: &[Ends; 65], legs: usize) -> usize
-    requires { legs < 65 }
-    ensures { result ≡ reached (moving W.goes ranges.now) legs }
-{
-    ranges[1..legs + 1]
-        .iter()
-        .map(|range| W::end(*range) as usize)
-        .sum()
+impl Front<'_> {
+    // The ends that a move moves, of all the legs together.
+    fn sum<W: Way>(&self) -> usize
+        ensures { result ≡ reached (moving W.goes self.now.ranges.now) self.now.legs }
+    {
+        let ranges = self.ranges;
+        ranges[1..=self.legs]
+            .iter()
+            .map(|range| W::end(*range) as usize)
+            .sum()
+    }
 }
 
 // Moves one end of the ranges of the legs up to stop `done + 1` until it can no longer be reached outside its window on that
@@ -38,14 +41,16 @@ fn settle<W: Way, B: Book>(
 {
     book.keeps_laws();
     let stop = done + 1;
-    let window = plan.window(book.legs(), stop);
-    let lacking = W::lacking(plan.total, window, sum::<W>(ranges, stop));
+    let window = Course::over(book, plan).window(stop);
+    let front = Front { ranges, legs: stop };
+    let lacking = W::lacking(plan.total, window, front.sum::<W>());
     if lacking == 0 {
         return;
     }
-    gather::<W, B>(book, ranges, stop, steps);
+    front.gather::<W, B>(book, steps);
     for _ in 0..lacking {
-        let leg = choose::<W, B>(book, ranges, stop, steps);
+        let front = Front { ranges, legs: stop };
+        let leg = front.choose::<W, B>(book, steps);
         let ends = W::moved(ranges[leg]);
         ranges[leg] = ends;
         refresh::<W, B>(book, ends, leg, steps);
@@ -64,6 +69,7 @@ pub(crate) fn narrow<B: Book>(
     ensures { Cheapest (B.meaning book.now) B.Cost.Amount.le (settings plan.now) (at result) }
 {
     let last = book.legs() - 1;
+    // `done` counts stops, and indexes no array
     for done in 0..last {
         settle::<Raise, B>(book, plan, &mut ranges, done, steps);
         settle::<Lower, B>(book, plan, &mut ranges, done, steps);

@@ -6,8 +6,9 @@ ghost use Rattle.optimum.specs.Prices.{Named, PriceRule, worth};
 ghost use Rattle.solver.specs.Plans.{at, settings, price_at};
 ghost use Rattle.solver.specs.Pricing.{Timed, Floor, Fair, FairUp, Rises, Falls};
 
+use crate::course::Course;
 use crate::plan::Plan;
-use crate::steps::{gather, leader, step_from};
+use crate::steps::{Front, step_from};
 use crate::way::Raise;
 use amounts::Amount;
 use books::Book;
@@ -48,10 +49,12 @@ fn base<B: Book>(book: &B, plan: &Plan, minutes: &[u16; 65], steps: &mut [B::Cos
     ensures { Floor (B.meaning book.now) B.Cost.Amount.le (settings plan.now) (at minutes.now) result }
 {
     book.keeps_laws();
-    let legs = book.legs();
-    let ranges = plan.above(minutes);
-    gather::<Raise, B>(book, &ranges, legs, steps);
-    let Some(leg) = leader::<Raise, B>(book, &ranges, legs, steps) else {
+    let front = Front {
+        ranges: &plan.above(minutes),
+        legs: book.legs(),
+    };
+    front.gather::<Raise, B>(book, steps);
+    let Some(leg) = front.leader::<Raise, B>(book, steps) else {
         return ZERO;
     };
     Price {
@@ -89,24 +92,25 @@ fn first_prices<B: Book>(book: &B, plan: &Plan, minutes: &[u16; 65], base: Price
 {
     book.keeps_laws();
     let mut prices = [base; 65];
-    // by index: after `iter_mut` nothing is known of the elements
-    for k in 0..book.legs() {
-        prices[k + 1] = first_price(book, plan, minutes, base, k + 1);
+    for (k, price) in prices[1..=book.legs()].iter_mut().enumerate() {
+        *price = first_price(book, plan, minutes, base, k + 1);
     }
     prices
 }
 
-// When each of the first `legs` stops is reached.
-fn arrivals(minutes: &[u16; 65], legs: usize) -> [usize; 65]
-    requires { legs < 65 }
-    ensures { (k : ℕ) → k ≤ legs → slice_index result k ≡ reached (at minutes.now) k }
-{
-    let mut arrivals = [0; 65];
-    // by index: each is made of the one before it
-    for k in 0..legs {
-        arrivals[k + 1] = arrivals[k] + minutes[k + 1] as usize;
+impl Course<'_> {
+    // When each stop is reached.
+    fn arrivals(&self, minutes: &[u16; 65]) -> [usize; 65]
+        ensures { (k : ℕ) → k ≤ self.now.legs → slice_index result k ≡ reached (at minutes.now) k }
+    {
+        let mut arrivals = [0; 65];
+        let mut total = 0;
+        for (k, arrival) in arrivals[1..=self.legs].iter_mut().enumerate() {
+            total += minutes[k + 1] as usize;
+            *arrival = total;
+        }
+        arrivals
     }
-    arrivals
 }
 
 // Carries prices to the right over every stop that is reached after its window opens: no price falls there.
@@ -115,12 +119,11 @@ fn carry_right<B: Book>(book: &B, plan: &Plan, minutes: &[u16; 65], prices: &mut
     ensures fair { FairUp (B.meaning book.now) B.Cost.Amount.le (settings plan.now) (at minutes.now) (B.meaning book.now).legs prices.new }
     ensures rises { (k : ℕ) → 1 ≤ k → k < (B.meaning book.now).legs → Rises (B.meaning book.now) B.Cost.Amount.le (settings plan.now) (at minutes.now) prices.new k }
 {
-    book.keeps_laws();
-    let legs = book.legs();
-    let arrivals = arrivals(minutes, legs);
-    // by index: each price is made of its neighbour's
-    for k in 1..legs {
-        if (plan.window(legs, k).lo as usize) < arrivals[k] {
+    let course = Course::over(book, plan);
+    let arrivals = course.arrivals(minutes);
+    // by index: each price is made of its neighbour's, and one kept beside a loop over the slice takes two lines more
+    for k in 1..course.legs {
+        if (course.window(k).lo as usize) < arrivals[k] {
             prices[k + 1] = greater(book, prices[k + 1], prices[k]);
         }
     }
@@ -135,12 +138,11 @@ fn carry_left<B: Book>(book: &B, plan: &Plan, minutes: &[u16; 65], prices: &mut 
     ensures rises { (k : ℕ) → 1 ≤ k → k < (B.meaning book.now).legs → Rises (B.meaning book.now) B.Cost.Amount.le (settings plan.now) (at minutes.now) prices.new k }
     ensures falls { (k : ℕ) → 1 ≤ k → k < (B.meaning book.now).legs → Falls (B.meaning book.now) B.Cost.Amount.le (settings plan.now) (at minutes.now) prices.new k }
 {
-    book.keeps_laws();
-    let legs = book.legs();
-    let arrivals = arrivals(minutes, legs);
-    // by index: each price is made of its neighbour's
-    for k in (1..legs).rev() {
-        if arrivals[k] < plan.window(legs, k).hi as usize {
+    let course = Course::over(book, plan);
+    let arrivals = course.arrivals(minutes);
+    // by index: from the last to the first, and after `iter_mut().rev()` a proof knows only how many prices there are
+    for k in (1..course.legs).rev() {
+        if arrivals[k] < course.window(k).hi as usize {
             prices[k] = greater(book, prices[k], prices[k + 1]);
         }
     }

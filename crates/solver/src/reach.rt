@@ -4,8 +4,8 @@ ghost use Rattle.optimum.specs.Method.{Reach, Between};
 ghost use Rattle.solver.specs.Outcomes.{Blocked};
 ghost use Rattle.solver.specs.Plans.{los, his, settings, Small, Clipped};
 
+use crate::course::Course;
 use crate::fault::PlanFault;
-use crate::plan::Plan;
 use books::Ends;
 
 // The minutes that lie in both ranges.
@@ -39,50 +39,48 @@ fn between(a: Ends, b: Ends) -> Ends
     }
 }
 
-// Goes forward over the legs: for each stop the minutes from the earliest to the latest at which legs that keep their bounds
-// and windows so far can reach it; or the first leg at which nothing is left.
-pub(crate) fn forward(plan: &Plan, legs: usize) -> Result<[Ends; 65], PlanFault>
-    requires few { legs < 65 }
-    requires small { Small legs (settings plan.now) }
-    ensures { MatchResult result (λ spans. (k : ℕ) → k ≤ legs → Reach legs (settings plan.now) k (los spans k) (his spans k)) (λ fault. Blocked legs (settings plan.now) fault) }
-{
-    let mut spans = [Ends { lo: 0, hi: 0 }; 65];
-    // by index: each span is made of the one before it
-    for k in 0..legs {
-        let stop = k + 1;
-        let window = plan.window(legs, stop);
-        let span = both(window, plus(spans[k], plan.bounds[stop]));
-        if span.hi < span.lo {
-            return Err(PlanFault::Stuck { leg: stop as u8 });
+impl Course<'_> {
+    // Goes forward over the legs: for each stop the minutes from the earliest to the latest at which legs that keep their bounds
+    // and windows so far can reach it; or the first leg at which nothing is left.
+    pub(crate) fn forward(&self) -> Result<[Ends; 65], PlanFault>
+        requires { Small self.now.legs (settings self.now.plan.now) }
+        ensures { MatchResult result (λ spans. (k : ℕ) → k ≤ self.now.legs → Reach self.now.legs (settings self.now.plan.now) k (los spans k) (his spans k)) (λ fault. Blocked self.now.legs (settings self.now.plan.now) fault) }
+    {
+        let mut spans = [Ends { lo: 0, hi: 0 }; 65];
+        let mut span = spans[0];
+        for (k, place) in spans[1..=self.legs].iter_mut().enumerate() {
+            let stop = k + 1;
+            let window = self.window(stop);
+            span = both(window, plus(span, self.plan.bounds[stop]));
+            if span.hi < span.lo {
+                return Err(PlanFault::Stuck { leg: stop as u8 });
+            }
+            *place = span;
         }
-        spans[stop] = span;
+        Ok(spans)
     }
-    Ok(spans)
-}
 
-// Goes back from the total: narrows each span to what the stops behind it leave.
-pub(crate) fn backward(plan: &Plan, legs: usize, mut spans: [Ends; 65]) -> [Ends; 65]
-    requires few { legs < 65 }
-    requires between { Between legs (settings plan.now) (los spans) (his spans) }
-    ensures { Between legs (settings plan.now) (los result) (his result) }
-{
-    // by index: each span is narrowed by the one behind it
-    for k in (0..legs).rev() {
-        spans[k] = both(spans[k], between(spans[k + 1], plan.bounds[k + 1]));
+    // Goes back from the total: narrows each span to what the stops behind it leave.
+    pub(crate) fn backward(&self, mut spans: [Ends; 65]) -> [Ends; 65]
+        requires { Between self.now.legs (settings self.now.plan.now) (los spans) (his spans) }
+        ensures { Between self.now.legs (settings self.now.plan.now) (los result) (his result) }
+    {
+        // by index: from the last to the first, and after `iter_mut().rev()` a proof knows only how many spans there are
+        for k in (0..self.legs).rev() {
+            spans[k] = both(spans[k], between(spans[k + 1], self.plan.bounds[k + 1]));
+        }
+        spans
     }
-    spans
-}
 
-// The bounds of the legs, clipped to what the spans of the stops leave of them.
-pub(crate) fn clip(plan: &Plan, legs: usize, spans: &[Ends; 65]) -> [Ends; 65]
-    requires few { legs < 65 }
-    requires between { Between legs (settings plan.now) (los spans.now) (his spans.now) }
-    ensures { Clipped legs legs (settings plan.now) (los result) (his result) }
-{
-    let mut ranges = [Ends { lo: 0, hi: 0 }; 65];
-    // by index: after `iter_mut` nothing is known of the elements
-    for k in 0..legs {
-        ranges[k + 1] = both(plan.bounds[k + 1], between(spans[k + 1], spans[k]));
+    // The bounds of the legs, clipped to what the spans of the stops leave of them.
+    pub(crate) fn clip(&self, spans: &[Ends; 65]) -> [Ends; 65]
+        requires { Between self.now.legs (settings self.now.plan.now) (los spans.now) (his spans.now) }
+        ensures { Clipped self.now.legs self.now.legs (settings self.now.plan.now) (los result) (his result) }
+    {
+        let mut ranges = [Ends { lo: 0, hi: 0 }; 65];
+        for (k, range) in ranges[1..=self.legs].iter_mut().enumerate() {
+            *range = both(self.plan.bounds[k + 1], between(spans[k + 1], spans[k]));
+        }
+        ranges
     }
-    ranges
 }

@@ -1,5 +1,5 @@
 // Steps of a book: what one minute more costs, and which open leg has the least or the greatest.
-ghost use Rattle.std.specs.Prelude.{◌≡◌, ℕ, ◌+◌, ◌<◌, ◌≤◌, List, MatchOption};
+ghost use Rattle.std.specs.Prelude.{◌≡◌, ℕ, ◌+◌, ◌<◌, ◌≤◌, List, length, MatchOption};
 ghost use Rattle.books.specs.Meaning.{step};
 ghost use Rattle.books.specs.declared.Ends.{Ends};
 ghost use Rattle.solver.specs.Plans.{range};
@@ -8,6 +8,15 @@ ghost use Rattle.solver.specs.Steps.{Stepped, edge_of, edge_row, Steps, Held, At
 use crate::way::Way;
 use amounts::Amount;
 use books::{Book, Ends};
+
+// The ranges of the legs 1 to `legs`. Which steps are at hand is asked of the book, the way and the lent steps as well, and stands in
+// the contracts. How long the array is stands beside it, since behind a field it is not known otherwise.
+#[derive(Clone, Copy)]
+pub(crate) struct Front<'a> {
+    pub(crate) ranges: &'a [Ends; 65],
+    pub(crate) legs: usize,
+    ghost few: { (legs < 65) × (length ranges.now ≡ 65) },
+}
 
 // What one minute more than these costs on a leg.
 pub(crate) fn step_from<B: Book>(book: &B, leg: usize, minute: u16) -> B::Cost
@@ -34,22 +43,6 @@ fn better<W: Way, A: Amount>(best: Option<(usize, A)>, leg: usize, amount: A) ->
     }
 }
 
-// Keeps at hand the steps at the edges of the open legs of 1 to `legs`, as far as there is room.
-pub(crate) fn gather<W: Way, B: Book>(
-    book: &B,
-    ranges: &[Ends; 65],
-    legs: usize,
-    steps: &mut [B::Cost],
-)
-    requires few { legs < 65 }
-    requires steps { Steps (B.meaning book.now) W.goes ranges.now legs }
-    ensures { AtHand B.Cost.Amount.row (B.meaning book.now) W.goes ranges.now legs steps.new }
-{
-    for (k, ends) in ranges[1..legs + 1].iter().enumerate() {
-        refresh::<W, B>(book, *ends, k + 1, steps);
-    }
-}
-
 // Puts the step at the edge of a leg's range at hand, if there is room and the leg is open.
 pub(crate) fn refresh<W: Way, B: Book>(book: &B, ends: Ends, leg: usize, steps: &mut [B::Cost])
     requires { ends.lo < ends.hi → Stepped (B.meaning book.now) leg (edge_of W.goes ends) }
@@ -73,38 +66,41 @@ fn edge_step<W: Way, B: Book>(book: &B, ends: Ends, leg: usize, steps: &[B::Cost
     step_from(book, leg, W::edge(ends))
 }
 
-// The open leg of 1 to `legs` whose step goes before those of the others; none if none is open.
-pub(crate) fn leader<W: Way, B: Book>(
-    book: &B,
-    ranges: &[Ends; 65],
-    legs: usize,
-    steps: &[B::Cost],
-) -> Option<usize>
-    requires few { legs < 65 }
-    requires steps { Steps (B.meaning book.now) W.goes ranges.now legs × AtHand B.Cost.Amount.row (B.meaning book.now) W.goes ranges.now legs steps.now }
-    ensures { MatchOption result (NoneOpen ranges.now legs) (λ i. Leads (Before W.goes B.Cost.Amount.le) (edge_row (B.meaning book.now) W.goes ranges.now) ranges.now legs i) }
-{
-    let mut best = None;
-    for (k, ends) in ranges[1..legs + 1].iter().enumerate() {
-        if ends.lo < ends.hi {
-            let step = edge_step::<W, B>(book, *ends, k + 1, steps);
-            best = Some(better::<W, B::Cost>(best, k + 1, step));
+impl Front<'_> {
+    // Keeps at hand the steps at the edges of the open legs, as far as there is room.
+    pub(crate) fn gather<W: Way, B: Book>(&self, book: &B, steps: &mut [B::Cost])
+        requires { Steps (B.meaning book.now) W.goes self.now.ranges.now self.now.legs }
+        ensures { AtHand B.Cost.Amount.row (B.meaning book.now) W.goes self.now.ranges.now self.now.legs steps.new }
+    {
+        let ranges = self.ranges;
+        for (k, ends) in ranges[1..=self.legs].iter().enumerate() {
+            refresh::<W, B>(book, *ends, k + 1, steps);
         }
     }
-    let found = best?;
-    Some(found.0)
-}
 
-// The same where a leg is open.
-pub(crate) fn choose<W: Way, B: Book>(
-    book: &B,
-    ranges: &[Ends; 65],
-    legs: usize,
-    steps: &[B::Cost],
-) -> usize
-    requires open { (legs < 65) × (NoneOpen ranges.now legs → ⊥) }
-    requires steps { Steps (B.meaning book.now) W.goes ranges.now legs × AtHand B.Cost.Amount.row (B.meaning book.now) W.goes ranges.now legs steps.now }
-    ensures { Leads (Before W.goes B.Cost.Amount.le) (edge_row (B.meaning book.now) W.goes ranges.now) ranges.now legs result }
-{
-    leader::<W, B>(book, ranges, legs, steps).unwrap()
+    // The open leg whose step goes before those of the others; none if none is open.
+    pub(crate) fn leader<W: Way, B: Book>(&self, book: &B, steps: &[B::Cost]) -> Option<usize>
+        requires { Steps (B.meaning book.now) W.goes self.now.ranges.now self.now.legs × AtHand B.Cost.Amount.row (B.meaning book.now) W.goes self.now.ranges.now self.now.legs steps.now }
+        ensures { MatchOption result (NoneOpen self.now.ranges.now self.now.legs) (λ i. Leads (Before W.goes B.Cost.Amount.le) (edge_row (B.meaning book.now) W.goes self.now.ranges.now) self.now.ranges.now self.now.legs i) }
+    {
+        let ranges = self.ranges;
+        let mut best = None;
+        for (k, ends) in ranges[1..=self.legs].iter().enumerate() {
+            if ends.lo < ends.hi {
+                let step = edge_step::<W, B>(book, *ends, k + 1, steps);
+                best = Some(better::<W, B::Cost>(best, k + 1, step));
+            }
+        }
+        let found = best?;
+        Some(found.0)
+    }
+
+    // The same where a leg is open.
+    pub(crate) fn choose<W: Way, B: Book>(&self, book: &B, steps: &[B::Cost]) -> usize
+        requires open { NoneOpen self.now.ranges.now self.now.legs → ⊥ }
+        requires steps { Steps (B.meaning book.now) W.goes self.now.ranges.now self.now.legs × AtHand B.Cost.Amount.row (B.meaning book.now) W.goes self.now.ranges.now self.now.legs steps.now }
+        ensures { Leads (Before W.goes B.Cost.Amount.le) (edge_row (B.meaning book.now) W.goes self.now.ranges.now) self.now.ranges.now self.now.legs result }
+    {
+        self.leader::<W, B>(book, steps).unwrap()
+    }
 }

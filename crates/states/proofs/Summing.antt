@@ -1,5 +1,6 @@
 -- The sum over the legs, one leg after the other. Assumes nothing.
-use Rattle.std.proofs.Common.{◌≡◌, ℕ, ◌+◌, ◌-◌, ◌<◌, ◌≤◌, List, length, get_or, Some, None, Option, sym, ap, ◌∙◌, subst, ap₂, arith, MatchOption}
+use Rattle.std.proofs.Common.{◌≡◌, ℕ, ◌+◌, ◌-◌, ◌<◌, ◌≤◌, List, length, get_or, take, drop, Some, None, Option, sym, ap, ◌∙◌, subst, ap₂, arith, MatchOption}
+use Rattle.std.proofs.lemmas.List.{get_or-take, get_or-drop}
 use Rattle.amounts.specs.Rows.{Row, plus, InRange}
 use Rattle.books.specs.Meaning.{Meaning, Priced, Ranged, Shaped}
 use Rattle.optimum.specs.Rotation.{spent, cost_of_timing}
@@ -36,3 +37,10 @@ module _ {A : Type 0} (row : A → Row) (b : Meaning) (ms qs : List ℕ) (long :
   pub timing_costs : (r : Option A) → MatchOption r (AllPriced b qs → ⊥) (λ a. AllPriced b qs × (row a ≡ spent b (flown qs) (length qs))) → MatchOption r (Affordable b (at ms) → ⊥) (λ a. row a ≡ cost_of_timing b (at ms))
   timing_costs None absent = λ all. absent (λ i low high. subst (Priced b i) (sym (flown_same i low (omega arith))) (all i (low, omega arith)))
   timing_costs (Some a) found = found.1 ∙ ap (spent b (flown qs)) long ∙ spent_same b (flown qs) (at ms) b.legs flown_same
+
+-- the slice of an array from place 1 to n
+pub slice_at : (ms : List ℕ) (n k : ℕ) → k < n → get_or (take (n + 1 - 1) (drop 1 ms)) k 0 ≡ at ms (k + 1)
+slice_at ms n k low =
+    let within : k < n + 1 - 1 = omega arith in
+    let place : 1 + k ≡ k + 1 = omega arith in
+    get_or-take (n + 1 - 1) (drop 1 ms) k 0 within ∙ get_or-drop 1 ms k 0 ∙ ap (at ms) place

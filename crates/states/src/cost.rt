@@ -11,6 +11,7 @@ pub(crate) fn cost_of<B: Book>(book: &B, minutes: &[u16]) -> Option<B::Cost>
     ensures { MatchOption result (AllPriced (B.meaning book.now) minutes.now → ⊥) (λ a. AllPriced (B.meaning book.now) minutes.now × (B.Cost.Amount.row a ≡ spent (B.meaning book.now) (flown minutes.now) (length minutes.now))) }
 {
     book.keeps_laws();
+    // a loop over the slice of the minutes, and no chain: it is how the sum is defined, leg after leg
     let mut total = B::Cost::zero();
     for (k, m) in minutes.iter().enumerate() {
         let cost = book.cost(k + 1, *m)?;

@@ -40,7 +40,7 @@ pub(crate) fn set_bounds(mut plan: Plan, leg: usize, bounds: Ends) -> Plan
     plan
 }
 
-// The plan with another window of a stop.
+// The plan with another window of a stop. Apart from the bounds: which of two fields is written is all that the two say.
 pub(crate) fn set_window(mut plan: Plan, stop: usize, window: Ends) -> Plan
     requires { stop < 65 }
     ensures { settings result ≡ with_window stop window.lo window.hi (settings plan) }

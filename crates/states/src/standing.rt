@@ -17,12 +17,13 @@ pub struct Standing {
 
 impl Standing {
     // The minutes of the legs of a book, leg 1 first.
+    #[tactic(auto, using(crate::proofs::Summing::slice_at))]
     pub fn timing<B: Book>(&self, book: &B) -> &[u16]
         ensures legs { length result.now ≡ (B.meaning book.now).legs }
         ensures minutes { (k : ℕ) → k < (B.meaning book.now).legs → slice_index result.now k ≡ at self.now.found.minutes (k + 1) }
     {
         book.keeps_laws();
-        &self.found.minutes[1..book.legs() + 1]
+        &self.found.minutes[1..=book.legs()]
     }
 
     // What the timing costs on a book: the sum over the legs; absent exactly if the book has no cost for one of them.

@@ -12,19 +12,17 @@ returns-then-lacking-eq0-clause-settled g c =
     let way = g.W.Way.goes in
     let es = c.args.ranges.now in
     let k = c.args.done + 1 in
-    let window = rw c.legs.ensures at c.window-window.ensures in
+    let window = rw (c.over.ensures.0, c.over.ensures.1) at c.window-window.ensures in
     let lacks = lacks_from way b.legs s es k c.window-window.result c.sum.result _ _ window.0 window.1 c.sum.ensures refl c.lacking-lacking.ensures in
     none_lacks b s es k way _ c.if-lacking-eq0.true lacks
 
-pub gather-requires-clause-steps : goal.gather-requires-clause-steps
-gather-requires-clause-steps g c = box_steps c.args.ranges.now c.requires.fits.0 c.requires.fits.1 g.W.Way.goes _ c.requires.done_bound
+pub gather-requires : goal.gather-requires
+gather-requires g c = box_steps c.args.ranges.now c.requires.fits.0 c.requires.fits.1 g.W.Way.goes _ c.requires.done_bound
 
 pub choose-leg-requires-clause-open : goal.choose-leg-requires-clause-open
 choose-leg-requires-clause-open g c =
-    let few = c.keeps_laws.ensures.shape.few in
-    let bound = c.requires.done_bound in
     let inv = c.loop.invariant in
-    (omega arith, can_move c.loop.ranges inv.boxed bound g.W.Way.goes _ (omega arith) inv.lacks)
+    can_move c.loop.ranges inv.boxed c.requires.done_bound g.W.Way.goes _ (omega arith) inv.lacks
 
 pub choose-leg-requires-clause-steps : goal.choose-leg-requires-clause-steps
 choose-leg-requires-clause-steps g c =

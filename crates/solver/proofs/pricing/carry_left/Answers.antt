@@ -16,8 +16,7 @@ loop-k-preserved-then-arrivals-k g c =
     let ps = c.loop-k.prices in
     let r = c.greater.result in
     let inv = c.loop-k.invariant in
-    let few = c.keeps_laws.ensures.shape.few in
-    let shuts = rw c.legs-legs.ensures at c.window.ensures.1 in
+    let shuts = rw (c.over-course.ensures.0, c.over-course.ensures.1) at c.window.ensures.1 in
     let loose : reached x k < latest b.legs s k = omega arith in (
       fair_set order b.legs k ps r (omega arith) (fair_left order k _ _ r (inv.0 k (omega arith) (omega arith)) (inv.0 (k + 1) (omega arith) (omega arith)) loose c.greater.ensures) inv.0,
       rises_left order b s x ps k r b.legs (omega arith) (omega arith) (omega arith) inv.1 c.greater.ensures,
@@ -31,7 +30,7 @@ loop-k-preserved g c =
     let s = settings c.args.plan.now in
     let x = at c.args.minutes.now in
     let inv = c.loop-k.invariant in
-    let shuts = rw c.legs-legs.ensures at c.window.ensures.1 in (
+    let shuts = rw (c.over-course.ensures.0, c.over-course.ensures.1) at c.window.ensures.1 in (
       inv.0,
       inv.1,
       λ j low high loose.

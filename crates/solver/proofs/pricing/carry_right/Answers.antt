@@ -18,8 +18,7 @@ loop-k-preserved g c =
     let x = at c.args.minutes.now in
     let k = c.loop-k.k in
     let ps = c.loop-k.prices in
-    let few = c.keeps_laws.ensures.shape.few in
-    let opens = rw c.legs-legs.ensures at c.window.ensures.0 in
+    let opens = rw (c.over-course.ensures.0, c.over-course.ensures.1) at c.window.ensures.0 in
     let Carried : List Price → Type 0 = λ qs. FairUp b le s x b.legs qs × ((j : ℕ) → 1 ≤ j → j < k + 1 → Rises b le s x qs j) × (length qs ≡ 65) in
     elim c.if-window-arrivals.branch [
       | then-window-arrivals w ↦

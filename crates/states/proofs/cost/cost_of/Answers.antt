@@ -1,9 +1,7 @@
-use Rattle.std.proofs.Common.{◌≡◌, ℕ, ◌≤◌, length, sym, ◌∙◌, subst, arith}
+use Rattle.std.proofs.Common.{sym, ◌∙◌, subst, arith}
 use Rattle.std.proofs.lemmas.Option.{MatchOption-at_none}
 use Rattle.amounts.specs.Rows.{InRange}
-use Rattle.books.specs.Meaning.{Priced}
 use Rattle.optimum.specs.Rotation.{spent}
-use Rattle.states.specs.Costs.{flown}
 use Rattle.states.proofs.Summing.{spent_next, priced_next, spent_fits}
 use Rattle.states.proofs.cost.cost_of.Goals as goal
 
@@ -28,13 +26,4 @@ loop-k-preserved g c =
     let sum = c.in_ok-total.ensures in (
       sum.1 ∙ spent_next b ms c.loop-k.k _ _ c.loop-k.invariant.0 cost.1,
       priced_next b ms c.loop-k.k c.loop-k.invariant.1 cost.0,
-    )
-
-pub returns : goal.returns
-returns g c =
-    let b = g.B.Book.meaning c.args.book.now in
-    let ms = c.args.minutes.now in
-    let all : c.loop-k.k ≡ length ms = omega arith in (
-      subst (λ n. (i : ℕ) → 1 ≤ i → i ≤ n → Priced b i (flown ms i)) all c.loop-k.invariant.1,
-      subst (λ n. g.B.Cost.Amount.row c.loop-k.total ≡ spent b (flown ms) n) all c.loop-k.invariant.0,
     )

@@ -5,8 +5,8 @@ use Rattle.books.specs.declared.Ends.{Ends}
 use Rattle.solver.specs.Steps.{edge_of, Before, edge_row}
 use Rattle.solver.proofs.Leading.{Found, found_shut, found_open}
 use Rattle.solver.proofs.Places.{slice_range_at}
-use Rattle.solver.proofs.steps.leader.Goals as goal
-use Rattle.solver.proofs.steps.leader.Goals.{then-ends, else-ends}
+use Rattle.solver.proofs.steps.Front.leader.Goals as goal
+use Rattle.solver.proofs.steps.Front.leader.Goals.{then-ends, else-ends}
 
 pub loop-k-preserved : goal.loop-k-preserved
 loop-k-preserved g c =
@@ -14,12 +14,12 @@ loop-k-preserved g c =
     let b = g.B.Book.meaning c.args.book.now in
     let way = g.W.Way.goes in
     let row = g.B.Cost.Amount.row in
-    let es = c.args.ranges.now in
+    let es = c.args.self.now.ranges.now in
     let rows = edge_row b way es in
     let k = c.loop-k.k in
     let best = c.loop-k.best in
     let test = simp (length-take, length-drop) at c.loop-k-test.true in
-    let here = slice_range_at es c.args.legs k (record { lo = 0; hi = 0 }) (omega arith) (omega arith) in
+    let here = slice_range_at es c.args.self.now.legs k (record { lo = 0; hi = 0 }) (omega arith) (omega arith) in
     let lo = ap (λ (e : Ends). e.lo) here in
     let hi = ap (λ (e : Ends). e.hi) here in
     elim c.if-ends.branch [

@@ -4,7 +4,7 @@ use Rattle.std.proofs.lemmas.List.{get_or-take, get_or-drop, length-take, length
 use Rattle.books.specs.declared.Ends.{Ends}
 use Rattle.solver.specs.Plans.{Inside, settings, WindowsFit}
 use Rattle.solver.proofs.Tests.{either_way}
-use Rattle.solver.proofs.lawful.windows_fit.Goals as goal
+use Rattle.solver.proofs.course.Course.windows_fit.Goals as goal
 
 -- the window of stop k + 1 in the slice of the windows before stop n
 item : (ws : List Ends) (n k : ℕ) → k < n - 1 → get_or (take (n - 1) (drop 1 ws)) k (record { lo = 0; hi = 4095 }) ≡ get_or ws (k + 1) (record { lo = 0; hi = 4095 })
@@ -15,13 +15,13 @@ item ws n k low =
 pub returns : goal.returns
 returns c =
     let day : Ends = record { lo = 0; hi = 4095 } in
-    let n = c.args.legs in
-    let windows = c.args.plan.now.windows in
+    let n = c.args.self.now.legs in
+    let windows = c.args.self.now.plan.now.windows in
     let ws = take (n - 1) (drop 1 windows) in
     let size : length windows ≡ 65 = search rules in
     let long : length ws ≡ n - 1 = simp (length-take, length-drop) (omega arith) in
     let Fit : Ends → Type 0 = λ w. (w.lo ≤ w.hi) × (w.hi ≤ 4095) in
-    let All : Type 0 = (k : ℕ) → 1 ≤ k → k < n → WindowsFit (settings c.args.plan.now) k in
+    let All : Type 0 = (k : ℕ) → 1 ≤ k → k < n → WindowsFit (settings c.args.self.now.plan.now) k in
     either_way {C = All} {D = All → ⊥} c.all.result
     (cases_from_all _ _ _ (λ w. Inside w day) (λ w. Inside w day → ⊥) c.all.ensures.ran (YieldsList-from_slice ws (cc)) (λ x q k. search (rules, tests)) (λ x q k. search (rules, tests)))
     (λ all k low high.
