@@ -20,7 +20,8 @@ pub enum Answer<'a> {
     },
 }
 
-// An answer that was read. The minutes of a timing stand in the place that its reader was given.
+// An answer that was read. The minutes of a timing stand in the place that its reader was given, and not in the answer: that is why
+// it is a type of its own.
 #[derive(Clone, Copy, PartialEq, Eq, Debug)]
 pub enum Reading {
     Done,

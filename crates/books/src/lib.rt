@@ -41,7 +41,8 @@ pub trait Book {
 
     ghost meaning: { Self → Meaning };
 
-    // The laws of a book: it runs nothing, and its contract says what every book keeps.
+    // The laws of a book: it runs nothing, and its contract says what every book keeps. It is a function, and no law of the trait, as
+    // the laws are asked for as promises of a book's functions.
     fn keeps_laws(&self)
         ensures shape { Shaped (meaning self.now) }
         ensures range { Ranged Self.Cost.Amount.places (meaning self.now) }

@@ -13,7 +13,8 @@ pub(crate) struct Deck<'a> {
     pub(crate) cards: &'a [i64],
 }
 
-// That a leg is one of the deck, and that there are at most 64, is asked of single calls before the deck is known to be well formed.
+// That a leg is one of the deck is a fact about the leg, asked of single calls. That there are at most 64 is asked before the deck is
+// known to be well formed.
 impl Deck<'_> {
     // The head of a leg, counted from 1; absent exactly if there is no such leg.
     pub(crate) fn head(&self, leg: usize) -> Option<Head>

@@ -8,7 +8,7 @@ use frames::Call;
 use lines::{LIMIT, Lines, start_of};
 use std::alloc::{AllocError, Global};
 
-// The answer to a line in words, with the line's number.
+// The answer to a line in words, with the line's number. It is no `Display`: a line with its number is no type.
 fn line_words(heap: Global, number: usize, line: &[u8]) -> Result<String, AllocError>
     ensures { IfOk result (λ words. Says number line.now (string_bytes words)) }
 {

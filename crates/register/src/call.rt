@@ -20,7 +20,7 @@ pub enum Call {
 }
 
 impl Call {
-    // The leg or stop that the call names, 0 if it names none.
+    // The leg or stop that the call names, 0 if it names none: that is how a refusal tells it.
     pub fn leg(self) -> u8
         ensures { result ≡ named self }
     {

@@ -7,7 +7,7 @@ use board::{Layer, Refusal};
 use books::BookFault;
 use solver::PlanFault;
 
-// Why a sheet refuses a call; `leg` is the leg or stop that the refusal tells.
+// Why a sheet refuses a call; `leg` is the leg or stop that the refusal tells, as that number, 0 for none.
 #[derive(Clone, Copy, PartialEq, Eq, Debug)]
 pub enum SheetFault {
     // open on a standing sheet

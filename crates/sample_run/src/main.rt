@@ -33,7 +33,8 @@ fn g(legs: u8) -> FormulaBook
     formula_book(1, legs).unwrap()
 }
 
-// Says which minutes stand on a sheet, and their cost.
+// Says which minutes stand on a sheet, and their cost. What tells of a sheet takes the runtime and the sheet, two lent things of
+// unlike kind, and no struct of both.
 fn tell_timing<B: Book>(
     rt: &HostRuntime,
     sample: &str,

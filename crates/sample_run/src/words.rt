@@ -9,7 +9,7 @@ use books::Book;
 use sheet::Sheet;
 use std::alloc::{AllocError, Global};
 
-// The minutes that stand on a sheet, leg 1 first, each behind a space.
+// The minutes that stand on a sheet, leg 1 first, each behind a space. It is no `Display`: the sheet lends them as a slice.
 pub(crate) fn minutes_words<B: Book>(heap: Global, sheet: &Sheet<B>) -> Result<String, AllocError>
     ensures { IfOk result (λ words. Listed (λ i. Stands (reading sheet.now.state) × IsLeg (B.meaning sheet.now.book) i) (minutes_of sheet.now.state) (string_bytes words)) }
 {
