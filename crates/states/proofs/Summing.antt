@@ -34,9 +34,12 @@ module _ {A : Type 0} (row : A → Row) (b : Meaning) (ms qs : List ℕ) (long :
       let place : i - 1 + 1 ≡ i = omega arith in
       same (i - 1) within ∙ ap (at ms) place
 
-  pub timing_costs : (r : Option A) → MatchOption r (AllPriced b qs → ⊥) (λ a. AllPriced b qs × (row a ≡ spent b (flown qs) (length qs))) → MatchOption r (Affordable b (at ms) → ⊥) (λ a. row a ≡ cost_of_timing b (at ms))
+  pub timing_costs : (r : Option A) → MatchOption r (AllPriced b qs → ⊥) (λ a. AllPriced b qs × (row a ≡ spent b (flown qs) (length qs))) → MatchOption r (Affordable b (at ms) → ⊥) (λ a. Affordable b (at ms) × (row a ≡ cost_of_timing b (at ms)))
   timing_costs None absent = λ all. absent (λ i low high. subst (Priced b i) (sym (flown_same i low (omega arith))) (all i (low, omega arith)))
-  timing_costs (Some a) found = found.1 ∙ ap (spent b (flown qs)) long ∙ spent_same b (flown qs) (at ms) b.legs flown_same
+  timing_costs (Some a) found = (
+    λ i leg. subst (Priced b i) (flown_same i leg.0 leg.1) (found.0 i leg.0 (let end = leg.1 in omega arith)),
+    found.1 ∙ ap (spent b (flown qs)) long ∙ spent_same b (flown qs) (at ms) b.legs flown_same,
+  )
 
 -- the slice of an array from place 1 to n
 pub slice_at : (ms : List ℕ) (n k : ℕ) → k < n → get_or (take (n + 1 - 1) (drop 1 ms)) k 0 ≡ at ms (k + 1)

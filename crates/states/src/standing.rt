@@ -28,7 +28,7 @@ impl Standing {
 
     // What the timing costs on a book: the sum over the legs; absent exactly if the book has no cost for one of them.
     pub fn cost<B: Book>(&self, book: &B) -> Option<B::Cost>
-        ensures { MatchOption result (Affordable (B.meaning book.now) (at self.now.found.minutes) → ⊥) (λ a. B.Cost.Amount.row a ≡ cost_of_timing (B.meaning book.now) (at self.now.found.minutes)) }
+        ensures { MatchOption result (Affordable (B.meaning book.now) (at self.now.found.minutes) → ⊥) (λ a. Affordable (B.meaning book.now) (at self.now.found.minutes) × (B.Cost.Amount.row a ≡ cost_of_timing (B.meaning book.now) (at self.now.found.minutes))) }
     {
         cost_of(book, self.timing(book))
     }

@@ -43,7 +43,7 @@ returns-clause-carried g c =
       answered = λ _.
           answered_granted b (reading c.args.self.now) c.args.call _ _ x _ c.in_ok-admit.ensures c.requires
           (subst (λ s. Cheapest b g.B.Cost.Amount.le s x) c.planned-plan.ensures solves.1)
-          (MatchOption-at_some _ _ _ c.unwrap-cost.ensures c.cost.ensures)
+          (MatchOption-at_some _ _ _ c.unwrap-cost.ensures c.cost.ensures).1
           (ap standing c.planned-plan.ensures);
       sound = λ _. record { settled = record { lawful = solves.0; cheapest = solves.1; priced = solves.2 } };
     }
