@@ -1,9 +1,9 @@
 -- Rows with one place, and the order of numbers on them.
 use Rattle.std.specs.Prelude.{◌≡◌, ℕ, ◌^◌, Bool, true, false, cond, ℤ, pos, ◌+ℤ◌, ◌-ℤ◌, neg_ℤ, ◌≤ℤ◌, int_le, nat_lt, refl}
 use Rattle.std.proofs.Math.Path.{fun_ext}
-use Rattle.std.proofs.Common.{inl, inr, arith}
+use Rattle.std.proofs.Common.{Option, inl, inr, sym, ap, ◌∙◌, subst, arith}
 use Rattle.std.proofs.lemmas.Int.{ints, clamps, by_lt_z}
-use Rattle.amounts.specs.Rows.{Row, none, plus, minus, single, Within, InRange, Ends, nearest}
+use Rattle.amounts.specs.Rows.{Row, none, plus, minus, single, Within, InRange, Ends, nearest, Exactly}
 use Rattle.amounts.specs.Orders.{Order, ByNumber, Tells}
 
 pub single_first : (v : ℤ) → single v 0 ≡ v
@@ -60,3 +60,12 @@ tells_from false P held failed = failed refl
 
 pub tells_number : (x y : ℤ) (a b : Row) → x ≡ a 0 → y ≡ b 0 → Tells (int_le x y) (ByNumber a b)
 tells_number x y a b p q = tells_from (int_le x y) _ (λ e. omega (arith, ints)) (λ e h. omega (arith, ints))
+
+-- an answer is the test of the order, where it is true of two numbers in order alone, and false of no such two
+pub tells_order : (b : Bool) (x y : ℤ) → (b ≡ true → x ≤ℤ y) → (b ≡ false → x ≤ℤ y → ⊥) → Tells b (ByNumber (single x) (single y))
+unfolding single
+tells_order b x y held failed = tells_from b _ held failed
+
+-- a number that is told exactly is that of any row that it is the number of
+pub exactly_row : {A : Type 0} (row : A → Row) (v w : ℤ) (x : Row) (r : Option A) → Exactly 1 row (single v) r → v ≡ w → x ≡ single w → Exactly 1 row x r
+exactly_row row v w x r told same is = subst (λ y. Exactly 1 row y r) (ap single same ∙ sym is) told

@@ -101,6 +101,7 @@ impl<U: Unit> Amount for Single<U> {
 
     ghost ended = { λ a. single_ends _ };
 
+    #[tactic(auto, using(crate::specs::Singles::single_zero))]
     fn zero() -> Self {
         Single::new(0)
     }

@@ -40,16 +40,20 @@ impl Answer<'_> {
         ensures bytes { result.items ≡ answer_bytes (meant self.entry) }
         ensures fits { Fits (meant self.entry) }
     {
-        let mut bytes = ArrayVec::new();
         match self {
-            Answer::Done => bytes.push(0x80),
+            Answer::Done => {
+                let mut bytes = ArrayVec::new();
+                bytes.push(0x80);
+                bytes
+            }
             Answer::Timing {
                 minutes,
                 kilograms,
                 cents,
-            } => bytes = timing_bytes(minutes, kilograms, cents),
+            } => timing_bytes(minutes, kilograms, cents),
             Answer::Refused { refusal, line } => {
                 let [high, low] = line.to_be_bytes();
+                let mut bytes = ArrayVec::new();
                 put(
                     &mut bytes,
                     &[
@@ -61,24 +65,9 @@ impl Answer<'_> {
                         low,
                     ],
                 );
+                bytes
             }
         }
-        bytes
-    }
-
-    // The answer's line, with its line feed.
-    fn line(self) -> ArrayVec<u8, 293>
-        ensures line { result.items ≡ spelled (meant self.entry) ++ 10 ∷ [] }
-        ensures fits { Fits (meant self.entry) }
-    {
-        let bytes = self.bytes();
-        let mut line = ArrayVec::from([0; 293]);
-        let Some(count) = write_hex(&bytes, &mut line) else {
-            unreachable()
-        };
-        line.truncate(count);
-        line.push(b'\n');
-        line
     }
 
     // Appends the answer's line, with its line feed, to a text. No other answer has that line. If
@@ -91,6 +80,11 @@ impl Answer<'_> {
         ensures short { length (spelled (meant self.entry)) ≤ 292 }
         ensures only { (other : Reply) → Spells (spelled (meant self.entry)) other → other ≡ meant self.entry }
     {
-        text.extend_from_slice(&self.line())
+        let mut line = [0; 293];
+        let Some(end) = write_hex(&self.bytes(), &mut line) else {
+            unreachable()
+        };
+        line[end] = b'\n';
+        text.extend_from_slice(&line[..=end])
     }
 }

@@ -30,10 +30,11 @@ impl<L: Book, R: Book<Cost = L::Cost>> JoinedBook<L, R> {
     fn part(&self, leg: usize) -> Option<Part>
         ensures { MatchOption result (64 < leg) (λ p. (leg ≤ 64) × Has (L.meaning self.now.first) leg p) }
     {
-        let before = self.first.legs();
         if leg > MOST_LEGS {
-            None
-        } else if leg <= before {
+            return None;
+        }
+        let before = self.first.legs();
+        if leg <= before {
             Some(Part::First(leg))
         } else {
             Some(Part::Second(leg - before))

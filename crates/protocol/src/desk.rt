@@ -72,10 +72,15 @@ impl Desk {
     ) -> Result<Option<Told>, SheetFault>
         ensures { (n : ℕ) → Timed (lent minutes.old amounts.old) (stage self.old) call (reply sheets.told n result) n (stage self.new) }
     {
-        let mut sheet = std::mem::replace(self, Desk::new()).finish();
-        let outcome = sheet.carry_out(call, minutes, amounts);
-        *self = Desk::Timing(sheet);
-        outcome
+        match self {
+            Desk::Draft(_) => {
+                let mut sheet = std::mem::replace(self, Desk::new()).finish();
+                let outcome = sheet.carry_out(call, minutes, amounts);
+                *self = Desk::Timing(sheet);
+                outcome
+            }
+            Desk::Timing(sheet) => sheet.carry_out(call, minutes, amounts),
+        }
     }
 
     // Answers a line: reads it, and does what its call asks for. A refusal changes nothing but that a call for the sheet

@@ -57,6 +57,17 @@ fn settle<W: Way, B: Book>(
     }
 }
 
+// The low ends of some ranges. It is a loop, since `map` of an array fills a second one with options first.
+fn lows(ranges: &[Ends; 65]) -> [u16; 65]
+    ensures { at result ≡ los ranges.now }
+{
+    let mut lows = [0; 65];
+    for (leg, low) in lows.iter_mut().enumerate() {
+        *low = ranges[leg].lo;
+    }
+    lows
+}
+
 // Settles one stop after the other, and last the total: what is left is a cheapest timing.
 pub(crate) fn narrow<B: Book>(
     book: &B,
@@ -75,5 +86,5 @@ pub(crate) fn narrow<B: Book>(
         settle::<Lower, B>(book, plan, &mut ranges, done, steps);
     }
     settle::<Raise, B>(book, plan, &mut ranges, last, steps);
-    ranges.map(|range| range.lo)
+    lows(&ranges)
 }

@@ -1,13 +1,14 @@
 -- Settings as the arrays of a plan hold them. Assumes nothing.
-use Rattle.std.proofs.Common.{◌≡◌, ℕ, ◌+◌, ◌<◌, ◌≤◌, ◌≢◌, Some, None, Option, MatchOption, unwrap_or, List, length, get_or, set, replicate, below_more, sym, ap, ◌∙◌, ⊎_elim, arith}
+use Rattle.std.proofs.Common.{◌≡◌, ℕ, ◌+◌, ◌-◌, ◌≤◌, zero, suc, Some, None, Option, MatchOption, unwrap_or, List, ◌∷◌, ◌++◌, length, get_or, drop, replicate, add-one, sym, ap, ◌∙◌, ⊎_elim, arith}
 use mathlib.Core.Path.{fun_ext}
 use Rattle.std.proofs.lemmas.Bool.{cases_lt}
-use Rattle.std.proofs.lemmas.List.{get_or-replicate, get_or_past, get_or-set_same, get_or-set_other, length-replicate, length-set}
+use Rattle.std.proofs.lemmas.List.{get_or-append_right, get_or-drop, get_or-replicate, get_or_append_left, get_or_past, length-replicate}
 use Rattle.std.proofs.lemmas.Bool.Decides.{nat_tests}
-use Rattle.books.specs.Meaning.{Meaning, IsLeg, Shaped}
+use Rattle.books.specs.Meaning.{Meaning, IsLeg}
 use Rattle.books.specs.declared.Ends.{Ends}
 use Rattle.optimum.specs.Rotation.{Settings}
 use Rattle.solver.specs.Plans.{los, his}
+use Rattle.solver.proofs.Places.{Legwise}
 use Rattle.register.specs.Register.{legwise}
 
 pub same_settings : (s s' : Settings) → s.total ≡ s'.total → s.low ≡ s'.low → s.high ≡ s'.high → s.opens ≡ s'.opens → s.shuts ≡ s'.shuts → s ≡ s'
@@ -30,20 +31,15 @@ pub legwise-leg : (n : ℕ) (f : ℕ → ℕ) (i : ℕ) → 1 ≤ i → i ≤ n 
 unfolding legwise
 legwise-leg n f i low high = grind (arith, nat_tests)
 
+-- what no loop has reached of an array of no leg's ends
+pub bare : (n m k : ℕ) → get_or (drop m (replicate n no_ends)) k no_ends ≡ no_ends
+bare n m k = get_or-drop m (replicate n no_ends) k no_ends ∙ replicated n no_ends (m + k)
+
 -- the ends of leg i, and 0 for what is no leg
 abbrev pub ends_of : Meaning → ℕ → Ends
 ends_of b i = record { lo = legwise b.legs b.lo i; hi = legwise b.legs b.hi i }
 
--- an array of 65 holds the ends of what is below k, and 0 from there on
-pub record Filled (b : Meaning) (k : ℕ) (es : List Ends) : Type 0 where
-  pub long : length es ≡ 65
-  pub below : (i : ℕ) → i < k → get_or es i no_ends ≡ ends_of b i
-  pub onward : (i : ℕ) → k ≤ i → get_or es i no_ends ≡ no_ends
-
 module _ (b : Meaning) where
-  pub filled_none : Filled b 0 (replicate 65 no_ends)
-  filled_none = record { long = length-replicate 65 no_ends; below = λ i none. absurd (omega arith); onward = λ i _. replicated 65 no_ends i }
-
   no_leg : (f : ℕ → ℕ) (i : ℕ) → (IsLeg b i → ⊥) → legwise b.legs f i ≡ 0
   unfolding legwise
   no_leg f i none = grind (arith, nat_tests)
@@ -52,23 +48,18 @@ module _ (b : Meaning) where
   own_ends i None none = λ t. record { lo = sym (no_leg b.lo i none) t; hi = sym (no_leg b.hi i none) t }
   own_ends i (Some e) found = λ t. record { lo = (found.1 ∙ sym (legwise-leg b.legs b.lo i found.0.0 found.0.1)) t; hi = (found.2 ∙ sym (legwise-leg b.legs b.hi i found.0.0 found.0.1)) t }
 
-  -- one leg more
-  pub filled_next : (k : ℕ) (es : List Ends) (e : Ends) → k < 65 → Filled b k es → e ≡ ends_of b k → Filled b (k + 1) (set es k e)
-  filled_next k es e within before own =
-      let room : k < length es = omega (arith, before.long) in
-      record {
-        long = simp length-set before.long;
-        below = below_more _ k (λ i low. let other : i ≢ k = omega arith in rw get_or-set_other (before.below i low)) (rw get_or-set_same own);
-        onward = λ i past. let other : i ≢ k = omega arith in rw get_or-set_other (before.onward i (omega arith));
-      }
+  -- an array that holds the ends of the legs behind the place of no leg, and no leg's ends behind them
+  module _ (xs rest : List Ends) (long : length xs ≡ b.legs) (each : Legwise (λ i e. e ≡ ends_of b i) no_ends xs b.legs) (bare : (k : ℕ) → get_or rest k no_ends ≡ no_ends) where
+    placed : (i : ℕ) → get_or (no_ends ∷ (xs ++ rest)) i no_ends ≡ ends_of b i
+    placed zero = own_ends 0 None (λ leg. omega (arith, leg.0))
+    placed (suc k) =
+        ⊎_elim
+        (λ low. get_or_append_left xs rest no_ends k (omega arith) ∙ each k low ∙ ap (ends_of b) (add-one k))
+        (λ past. get_or-append_right xs rest b.legs k no_ends long past ∙ bare (k - b.legs) ∙ own_ends (suc k) None (λ leg. omega (arith, leg.1)))
+        (cases_lt k b.legs)
 
-  -- every place is filled
-  module _ (shape : Shaped b) (k : ℕ) (es : List Ends) (last : 65 ≤ k) (filled : Filled b k es) where
-    pub filled_all : (i : ℕ) → get_or es i no_ends ≡ ends_of b i
-    filled_all i = ⊎_elim (filled.below i) (λ past. filled.onward i past ∙ own_ends i None (λ leg. omega (arith, leg.1, shape.few))) (cases_lt i k)
+    pub placed_los : los (no_ends ∷ (xs ++ rest)) ≡ legwise b.legs b.lo
+    placed_los = fun_ext (λ i. ap (λ (e : Ends). e.lo) (placed i))
 
-    pub filled_los : los es ≡ legwise b.legs b.lo
-    filled_los = fun_ext (λ i. ap (λ (e : Ends). e.lo) (filled_all i))
-
-    pub filled_his : his es ≡ legwise b.legs b.hi
-    filled_his = fun_ext (λ i. ap (λ (e : Ends). e.hi) (filled_all i))
+    pub placed_his : his (no_ends ∷ (xs ++ rest)) ≡ legwise b.legs b.hi
+    placed_his = fun_ext (λ i. ap (λ (e : Ends). e.hi) (placed i))

@@ -21,8 +21,8 @@ pub(crate) fn opened_plan<B: Book>(book: &B, total: u16) -> Plan
 {
     book.keeps_laws();
     let mut bounds = [NO_LEG; 65];
-    for (leg, place) in bounds.iter_mut().enumerate() {
-        *place = book.ends(leg).unwrap_or(NO_LEG);
+    for (k, place) in bounds[1..=book.legs()].iter_mut().enumerate() {
+        *place = book.ends(k + 1).unwrap_or(NO_LEG);
     }
     Plan {
         total,

@@ -1,9 +1,8 @@
-use Rattle.std.proofs.Common.{◌≡◌, ℕ, ◌+◌, ◌-◌, ◌<◌, ◌≤◌, length, get_or, sym, ◌∙◌, subst, arith, rules}
+use Rattle.std.proofs.Common.{◌≡◌, ◌+◌, ◌-◌, ◌≤◌, sym, subst, arith, rules}
 use Rattle.optimum.specs.Rotation.{reached, earliest, Cheapest}
 use Rattle.optimum.proofs.Box as box
 use Rattle.optimum.proofs.Box.{finish}
 use Rattle.solver.specs.Plans.{los, settings}
-use Rattle.solver.proofs.Places.{los_are}
 use Rattle.solver.proofs.narrow.narrow.Goals as goal
 
 pub loop-done-preserved : goal.loop-done-preserved
@@ -21,7 +20,4 @@ returns g c =
     let es = c.settle-2.new.ranges in
     let e : c.legs-last.result - 1 + 1 ≡ b.legs = omega arith in
     let cheapest = finish c.settle-2.ensures.boxed (subst (λ k. earliest b.legs s k ≤ reached (los es) k) e c.settle-2.ensures.settled) c.requires.bound.0 in
-    let m = c.map.ensures.items in
-    let long : length c.map.result ≡ length es = m.long ∙ sym (search rules) in
-    let same : (k : ℕ) → k < length es → get_or c.map.result k 0 ≡ los es k = λ k low. let call = m.at k (record { lo = 0; hi = 0 }) 0 (omega arith) in search rules in
-    subst (Cheapest b g.B.Cost.Amount.le s) (sym (los_are es c.map.result long same)) cheapest
+    subst (Cheapest b g.B.Cost.Amount.le s) (sym c.lows.ensures) cheapest

@@ -1,12 +1,9 @@
-use Rattle.std.proofs.Common.{◌≡◌, arith, w64, to_z, of_z}
-use Rattle.std.proofs.lemmas.Int.{to_z-of_z}
-use Rattle.amounts.specs.Rows.{single, nearest}
-use Rattle.amounts.specs.Singles.{tells_number}
+use Rattle.std.proofs.Common.{arith}
+use Rattle.std.proofs.lemmas.Int.{ints, clamps}
+use Rattle.amounts.specs.Rows.{nearest}
+use Rattle.amounts.specs.Singles.{tells_order}
 use Rattle.amounts.proofs.single.SingleAmount.at_most.Goals as goal
 
 pub returns : goal.returns
-unfolding single
 returns g c =
-    let p : to_z w64 (of_z w64 c.value.result) ≡ nearest c.args.self.value = grind (arith, to_z-of_z) in
-    let q : to_z w64 (of_z w64 c.value-2.result) ≡ nearest c.args.other.value = grind (arith, to_z-of_z) in
-    tells_number _ _ (single (nearest c.args.self.value)) (single (nearest c.args.other.value)) p q
+    tells_order _ (nearest c.args.self.value) (nearest c.args.other.value) (λ e. omega (arith, ints, clamps)) (λ e h. omega (arith, ints, clamps))
