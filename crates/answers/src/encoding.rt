@@ -1,6 +1,7 @@
 // Writing an answer as a line.
 ghost use Rattle.std.specs.Prelude.{◌≡◌, ◌+◌, ◌<◌, ◌≤◌, true, [], ◌∷◌, ◌++◌, length, take, drop, is_ok, if◌then◌else◌, vec_len, vec_capacity};
 ghost use Rattle.arrayvec.specs.ArrayVec.{array_vec_len};
+ghost use Rattle.hexadecimal.specs.Hex.{Puts};
 ghost use Rattle.answers.specs.Meaning.{meant};
 ghost use Rattle.answers.specs.Spelling.{Reply, timing, answer_bytes, spelled, Fits, Spells};
 
@@ -35,37 +36,25 @@ fn timing_bytes(minutes: &[u16], kilograms: i64, cents: i64) -> ArrayVec<u8, 146
 }
 
 impl Answer<'_> {
-    // The answer's bytes.
-    fn bytes(self) -> ArrayVec<u8, 146>
-        ensures bytes { result.items ≡ answer_bytes (meant self.entry) }
+    // Writes the answer's digits at the start of a line, and tells how many there are; the other characters stay.
+    fn write_digits(self, line: &mut [u8; 293]) -> Option<usize>
+        ensures digits { Puts (answer_bytes (meant self.entry)) line.old result line.new }
         ensures fits { Fits (meant self.entry) }
     {
         match self {
-            Answer::Done => {
-                let mut bytes = ArrayVec::new();
-                bytes.push(0x80);
-                bytes
-            }
+            Answer::Done => write_hex(&[0x80], line),
             Answer::Timing {
                 minutes,
                 kilograms,
                 cents,
-            } => timing_bytes(minutes, kilograms, cents),
-            Answer::Refused { refusal, line } => {
-                let [high, low] = line.to_be_bytes();
-                let mut bytes = ArrayVec::new();
-                put(
-                    &mut bytes,
-                    &[
-                        0xEE,
-                        refusal.number,
-                        refusal.layer.into(),
-                        refusal.leg,
-                        high,
-                        low,
-                    ],
-                );
-                bytes
+            } => write_hex(&timing_bytes(minutes, kilograms, cents), line),
+            Answer::Refused {
+                refusal,
+                line: number,
+            } => {
+                let [high, low] = number.to_be_bytes();
+                let layer = refusal.layer.into();
+                write_hex(&[0xEE, refusal.number, layer, refusal.leg, high, low], line)
             }
         }
     }
@@ -81,7 +70,7 @@ impl Answer<'_> {
         ensures only { (other : Reply) → Spells (spelled (meant self.entry)) other → other ≡ meant self.entry }
     {
         let mut line = [0; 293];
-        let Some(end) = write_hex(&self.bytes(), &mut line) else {
+        let Some(end) = self.write_digits(&mut line) else {
             unreachable()
         };
         line[end] = b'\n';

@@ -1,38 +1,35 @@
 use Rattle.std.proofs.Common.{◌≡◌, ◌+◌, [], ◌∷◌, ◌++◌, set, take, sym, ap, ◌∙◌, arith}
 use Rattle.std.proofs.lemmas.List.{length-set, length-take, take_at, take_more_set}
-use Rattle.hexadecimal.specs.Hex.{hexed}
-use Rattle.hexadecimal.proofs.Digits.{length-hexed}
 use Rattle.answers.specs.Meaning.{meant}
 use Rattle.answers.specs.Spelling.{spelled}
 use Rattle.answers.proofs.Apart.{same_reply, well_formed}
 use Rattle.answers.proofs.kinds.Answer.write.Goals as goal
 
 pub unreachable-requires : goal.unreachable-requires
-unreachable-requires c = omega (arith, c.in_default.ensures.0, length-hexed c.deref.result.now)
+unreachable-requires c = omega (arith, c.in_default.ensures.digits.0, (well_formed _ c.in_default.ensures.fits).short)
 
 pub bounds-line-end : goal.bounds-line-end
-bounds-line-end c = omega (arith, c.in-Some.ensures.0, length-hexed c.deref.result.now)
+bounds-line-end c = omega (arith, c.in-Some.ensures.digits.0, (well_formed _ c.in-Some.ensures.fits).short)
 
 pub slice_bounds-line-end : goal.slice_bounds-line-end
 slice_bounds-line-end c =
-    omega (arith, c.in-Some.ensures.0, length-hexed c.deref.result.now, length-set c.write_hex.new.place c.in-Some.end 10)
+    omega (arith, c.in-Some.ensures.digits.0, (well_formed _ c.in-Some.ensures.fits).short, length-set c.write_digits.new.line c.in-Some.end 10)
 
 pub slice_bounds-extend_from_slice-end : goal.slice_bounds-extend_from_slice-end
 slice_bounds-extend_from_slice-end c =
-    let line = set c.write_hex.new.place c.in-Some.end 10 in
-    omega (arith, c.in-Some.ensures.0, length-hexed c.deref.result.now, length-set c.write_hex.new.place c.in-Some.end 10, length-take (c.in-Some.end + 1) line)
+    let line = set c.write_digits.new.line c.in-Some.end 10 in
+    omega (arith, c.in-Some.ensures.digits.0, (well_formed _ c.in-Some.ensures.fits).short, length-set c.write_digits.new.line c.in-Some.end 10, length-take (c.in-Some.end + 1) line)
 
 pub returns-clause-items : goal.returns-clause-items
 returns-clause-items c =
     let end = c.in-Some.end in
-    let wrote = c.in-Some.ensures in
-    let digits : take end c.write_hex.new.place ≡ spelled (meant c.args.self) =
-    ap (take end) wrote.1 ∙ take_at (hexed c.deref.result.now) _ end (sym wrote.0) ∙ ap hexed (c.deref.ensures.0 ∙ c.bytes.ensures.bytes) in
-    let line = take_more_set c.write_hex.new.place end 10 (omega (arith, wrote.0, length-hexed c.deref.result.now)) ∙ ap (λ t. t ++ 10 ∷ []) digits in
+    let wrote = c.in-Some.ensures.digits in
+    let digits : take end c.write_digits.new.line ≡ spelled (meant c.args.self) = ap (take end) wrote.1 ∙ take_at (spelled (meant c.args.self)) _ end (sym wrote.0) in
+    let line = take_more_set c.write_digits.new.line end 10 (omega (arith, wrote.0, (well_formed _ c.in-Some.ensures.fits).short)) ∙ ap (λ t. t ++ 10 ∷ []) digits in
     simp line at c.extend_from_slice.ensures.items
 
 pub returns-clause-short : goal.returns-clause-short
-returns-clause-short c = (well_formed _ c.bytes.ensures.fits).short
+returns-clause-short c = (well_formed _ c.in-Some.ensures.fits).short
 
 pub returns-clause-only : goal.returns-clause-only
-returns-clause-only c = λ other spells. same_reply _ _ spells.fits c.bytes.ensures.fits (sym spells.is)
+returns-clause-only c = λ other spells. same_reply _ _ spells.fits c.in-Some.ensures.fits (sym spells.is)
