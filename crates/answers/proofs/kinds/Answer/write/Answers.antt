@@ -1,4 +1,4 @@
-use Rattle.std.proofs.Common.{◌≡◌, ◌+◌, [], ◌∷◌, ◌++◌, set, take, sym, ap, ◌∙◌, arith}
+use Rattle.std.proofs.Common.{◌≡◌, [], ◌∷◌, ◌++◌, ℕ, take, sym, ap, ◌∙◌, arith}
 use Rattle.std.proofs.lemmas.List.{length-set, length-take, take_at, take_more_set}
 use Rattle.answers.specs.Meaning.{meant}
 use Rattle.answers.specs.Spelling.{spelled}
@@ -12,13 +12,10 @@ pub bounds-line-end : goal.bounds-line-end
 bounds-line-end c = omega (arith, c.in-Some.ensures.digits.0, (well_formed _ c.in-Some.ensures.fits).short)
 
 pub slice_bounds-line-end : goal.slice_bounds-line-end
-slice_bounds-line-end c =
-    omega (arith, c.in-Some.ensures.digits.0, (well_formed _ c.in-Some.ensures.fits).short, length-set c.write_digits.new.line c.in-Some.end 10)
+slice_bounds-line-end c = omega (arith, c.in-Some.ensures.digits.0, (well_formed _ c.in-Some.ensures.fits).short, length-set {A = ℕ})
 
 pub slice_bounds-extend_from_slice-end : goal.slice_bounds-extend_from_slice-end
-slice_bounds-extend_from_slice-end c =
-    let line = set c.write_digits.new.line c.in-Some.end 10 in
-    omega (arith, c.in-Some.ensures.digits.0, (well_formed _ c.in-Some.ensures.fits).short, length-set c.write_digits.new.line c.in-Some.end 10, length-take (c.in-Some.end + 1) line)
+slice_bounds-extend_from_slice-end c = omega (arith, c.in-Some.ensures.digits.0, (well_formed _ c.in-Some.ensures.fits).short, length-set {A = ℕ}, length-take {A = ℕ})
 
 pub returns-clause-items : goal.returns-clause-items
 returns-clause-items c =
